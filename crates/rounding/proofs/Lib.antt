@@ -1,0 +1,5 @@
+pub mod Divided
+pub mod Order
+pub mod Ratio
+pub mod Integers
+pub mod Calls
