@@ -22,7 +22,7 @@ trans-le-lt x y z above h k =
 
 -- ---- sums
 
-same : {x y : Ratio} → x .plus ≡ y .plus → x .minus ≡ y .minus → x .over ≡ y .over → x ≡ y
+pub same : {x y : Ratio} → x .plus ≡ y .plus → x .minus ≡ y .minus → x .over ≡ y .over → x ≡ y
 same {x} {y} p m o =
     ap (λ (t : ℕ). ratio t (x .minus) (x .over)) p ∙ ap (λ (t : ℕ). ratio (y .plus) t (x .over)) m ∙ ap (ratio (y .plus) (y .minus)) o
   where

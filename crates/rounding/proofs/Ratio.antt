@@ -1,10 +1,11 @@
 -- Laws of exact values and of figures on their safe side, for either direction. Assumes nothing.
 use Prim.Native.Nat.{ℕ, _+_, _*_, _-_, _<_, _≤_}
-use mathlib.Core.Path.{_≡_, sym, subst, ap}
+use mathlib.Core.Path.{_≡_, refl, sym, subst, ap, _∙_}
 use mathlib.Core.List.{List, [], _∷_, map}
 use native.Mathlib.Omega.{arith}
+use lib.ListN.{length}
 use native.Mathlib.Nat.{mul-le-mul-right, mul-pos, lt-of-mul-lt-mul-right}
-use Rattle.rounding.proofs.Order.{trans-le, trans-lt-le, trans-le-lt, add-le, add-lt-le, interchange, add-swap, add-assoc, whole-add, per-le, per-add-le}
+use Rattle.rounding.proofs.Order.{same, trans-le, trans-lt-le, trans-le-lt, add-le, add-lt-le, interchange, add-swap, add-assoc, whole-add, per-le, per-add-le}
 use Rattle.rounding.specs.declared.Direction.{Direction}
 use Rattle.rounding.specs.declared.Direction.the-variants.{Up, Down}
 use Rattle.rounding.specs.Divided.{Rounds, sum}
@@ -61,13 +62,15 @@ two-within Down v u x y w z h k = (
       (subst (λ (t : Ratio). x +ᵣ y ≤ᵣ t) (interchange (whole v) w (whole u) z) (add-le x (whole v +ᵣ w) y (whole u +ᵣ z) (h .1) (k .1))),
 )
 
+-- A fact of every element of a list.
+abbrev pub All : {A : Type 0} → (A → Type 0) → List A → Type 0
+All P [] = Unit {0}
+All P (x ∷ xs) = P x × All P xs
+
 -- Figures that each stand within an allowance of an exact value: their sum stands within the allowances' sum of the exact sum.
 module _ {A : Type 0} (dir : Direction) (value : A → ℕ) (exact allowance : A → Ratio) where
-  abbrev pub AllWithin : List A → Type 0
-  AllWithin [] = Unit {0}
-  AllWithin (f ∷ fs) = Within dir (value f) (exact f) (allowance f) × AllWithin fs
-
-  pub sum-within : (fs : List A) → AllWithin fs → Within dir (sum (map value fs)) (sumᵣ (map exact fs)) (sumᵣ (map allowance fs))
+  pub sum-within : (fs : List A) → All (λ (f : A). Within dir (value f) (exact f) (allowance f)) fs
+      → Within dir (sum (map value fs)) (sumᵣ (map exact fs)) (sumᵣ (map allowance fs))
   unfolding sum sumᵣ
   sum-within [] h = none dir
     where
@@ -76,10 +79,23 @@ module _ {A : Type 0} (dir : Direction) (value : A → ℕ) (exact allowance : A
       none Down = omega arith
   sum-within (f ∷ fs) h = two-within dir (value f) (sum (map value fs)) (exact f) _ (allowance f) _ (h .0) (sum-within fs (h .1))
 
-  pub sum-over : (fs : List A) → ((f : A) → 0 < exact f .over) → 0 < sumᵣ (map exact fs) .over
+-- One allowance for every element.
+pub sum-equal : {A : Type 0} (w : ℕ) (fs : List A) → sumᵣ (map (λ (f : A). whole w) fs) ≡ whole (length fs * w)
+unfolding sumᵣ
+sum-equal w [] = same (omega arith) refl refl
+sum-equal w (f ∷ fs) = ap (λ (x : Ratio). whole w +ᵣ x) (sum-equal w fs) ∙ same (omega arith) (omega arith) (omega arith)
+
+-- A sum's denominator is above 0, and its numerator is not below 0, where those of its parts are.
+module _ {A : Type 0} (exact : A → Ratio) where
+  pub sum-over : (fs : List A) → All (λ (f : A). 0 < exact f .over) fs → 0 < sumᵣ (map exact fs) .over
   unfolding sumᵣ
   sum-over [] h = omega arith
-  sum-over (f ∷ fs) h = mul-pos (h f) (sum-over fs h)
+  sum-over (f ∷ fs) h = mul-pos (h .0) (sum-over fs (h .1))
+
+  pub sum-unsigned : (fs : List A) → All (λ (f : A). exact f .minus ≡ 0) fs → sumᵣ (map exact fs) .minus ≡ 0
+  unfolding sumᵣ
+  sum-unsigned [] h = refl
+  sum-unsigned (f ∷ fs) h = rw (h .0, sum-unsigned fs (h .1)) (omega arith)
 
 -- ---- a rounded quotient of a figure that stands within an allowance
 

@@ -1,0 +1,6 @@
+pub mod Patterns
+pub mod Shifts
+pub mod Readings
+pub mod Energy
+pub mod Table
+pub mod Examples

@@ -1,0 +1,79 @@
+-- A reading's whole watt-hours: when they are given, and that they round the exact value. Assumes nothing.
+use mathlib.Core.Path.{_≡_, refl, sym, ap, _∙_, subst}
+use mathlib.Core.Bool.{Bool, true, false, cond, _&&_, true≢false}
+use Prim.Native.Nat.{ℕ, _*_, _≤_, _<_}
+use native.Mathlib.Nat.{mul-le-mul-right, mul-lt-mul-of-pos-right}
+use native.Mathlib.Omega.{arith}
+use lib.Dec.{leb}
+use lib.Pow.{pow-pos}
+use borrow.Author.Tests.{le-leb, lt-leb, leb-true, leb-false}
+use Rattle.rounding.specs.declared.Direction.{Direction}
+use Rattle.rounding.specs.declared.Direction.the-variants.{Up}
+use Rattle.rounding.specs.Divided.{divided, Rounds}
+use Rattle.rounding.proofs.Divided.{rounds, divided-at-most, divided-up-bounds, divided-whole}
+use Rattle.metering.specs.Reading.{unit, limit, exact, isReadable, accepted, wattHours}
+use Rattle.metering.specs.declared.Reading.{Reading}
+use Rattle.metering.specs.declared.Reading.the-variants.{Whole}
+use Rattle.metering.specs.declared.WattHours.the-variants.{Refused, Rounded}
+
+pub unit-above-zero : 0 < unit
+unit-above-zero = pow-pos 149
+
+pub given : (dir : Direction) (r : Reading) (q : ℕ) → accepted r ≡ true → divided dir (exact r) unit ≡ q → Rounded q ≡ wattHours dir r
+given dir r q a e = sym (ap (λ (t : Bool). cond t (Rounded (divided dir (exact r) unit)) Refused) a ∙ ap Rounded e)
+
+pub declined : (dir : Direction) (r : Reading) → accepted r ≡ false → Refused ≡ wattHours dir r
+declined dir r a = sym (ap (λ (t : Bool). cond t (Rounded (divided dir (exact r) unit)) Refused) a)
+
+-- And back.
+pub was-given : (dir : Direction) (r : Reading) (q : ℕ) → wattHours dir r ≡ Rounded q
+    → (accepted r ≡ true) × (divided dir (exact r) unit ≡ q)
+was-given dir r q e = go (accepted r) e
+  where
+    go : (t : Bool) → cond t (Rounded (divided dir (exact r) unit)) Refused ≡ Rounded q → (t ≡ true) × (divided dir (exact r) unit ≡ q)
+    go true h = (refl, cc)
+    go false h = (cc, cc)
+
+pub was-declined : (dir : Direction) (r : Reading) → wattHours dir r ≡ Refused → accepted r ≡ false
+was-declined dir r e = go (accepted r) e
+  where
+    go : (t : Bool) → cond t (Rounded (divided dir (exact r) unit)) Refused ≡ Refused → t ≡ false
+    go true h = cc
+    go false h = refl
+
+within-limit : (r : Reading) → accepted r ≡ true → exact r ≤ limit * unit
+within-limit r h = leb-true (exact r) (limit * unit) (go (isReadable r) h)
+  where
+    go : (t : Bool) → (t && leb (exact r) (limit * unit)) ≡ true → leb (exact r) (limit * unit) ≡ true
+    go true e = e
+    go false e = absurd (true≢false (sym e))
+
+pub rounded-within : (dir : Direction) (r : Reading) → accepted r ≡ true → divided dir (exact r) unit ≤ limit
+rounded-within dir r h = divided-at-most dir (exact r) unit limit unit-above-zero (within-limit r h)
+
+-- A reading's watt-hours round its exact value, and are within the limit.
+pub watt-hours-rounds : (dir : Direction) (r : Reading) (q : ℕ) → wattHours dir r ≡ Rounded q → Rounds dir (exact r) unit q × (q ≤ limit)
+watt-hours-rounds dir r q e =
+    let p = was-given dir r q e in (
+      subst (Rounds dir (exact r) unit) (p .1) (rounds dir (exact r) unit unit-above-zero),
+      subst (λ (n : ℕ). n ≤ limit) (p .1) (rounded-within dir r (p .0)),
+    )
+
+-- An exact value is within the limit exactly where it is, rounded up.
+pub limit-rounded : (x : ℕ) → leb x (limit * unit) ≡ leb (divided Up x unit) limit
+limit-rounded x = go (leb (divided Up x unit) limit) refl
+  where
+    beyond : (u k : ℕ) → 0 < u → k < divided Up x u → k * u < x
+    beyond u k above h = omega (arith, rounds Up x u above, mul-le-mul-right u h)
+
+    go : (t : Bool) → leb (divided Up x unit) limit ≡ t → leb x (limit * unit) ≡ t
+    go true e = le-leb x (limit * unit) (divided-up-bounds x unit limit unit-above-zero (leb-true (divided Up x unit) limit e))
+    go false e = lt-leb x (limit * unit) (beyond unit limit unit-above-zero (leb-false (divided Up x unit) limit e))
+
+-- ---- a whole reading
+
+pub whole-within : (dir : Direction) (w : ℕ) → w ≤ limit → Rounded w ≡ wattHours dir (Whole w)
+whole-within dir w h = given dir (Whole w) w (le-leb (w * unit) (limit * unit) (mul-le-mul-right unit h)) (divided-whole dir w unit unit-above-zero)
+
+pub whole-beyond : (dir : Direction) (w : ℕ) → limit < w → Refused ≡ wattHours dir (Whole w)
+whole-beyond dir w h = declined dir (Whole w) (lt-leb (w * unit) (limit * unit) (mul-lt-mul-of-pos-right h unit-above-zero))

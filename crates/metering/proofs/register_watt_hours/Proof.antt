@@ -1,0 +1,101 @@
+-- `metering::register_watt_hours` meets its contract: each refusal is a law of patterns, and the limit is tested on the value rounded
+-- up. Assumes nothing.
+use borrow.Author.Needs.{needs}
+use mathlib.Core.Path.{_≡_, sym, ap, _∙_, subst}
+use mathlib.Core.Bool.{Bool, true, false}
+use Prim.Native.Nat.{ℕ, _≤_, _<_}
+use native.Mathlib.Omega.{arith}
+use lib.Dec.{leb}
+use lib.Ieee.{binary32, ofBits}
+use borrow.Author.Tests.{le-leb, lt-leb}
+use Rattle.rounding.specs.declared.Direction.{Direction}
+use Rattle.rounding.specs.declared.Direction.the-variants.{Up, Down}
+use Rattle.rounding.specs.Divided.{divided}
+use Rattle.metering.specs.Reading.{unit, limit, accepted, wattHours}
+use Rattle.metering.specs.Steps.{magnitude}
+use Rattle.metering.specs.declared.Bounds.{Bounds}
+use Rattle.metering.specs.declared.Reading.the-variants.{Single}
+use Rattle.metering.specs.declared.WattHours.the-variants.{Refused, Rounded}
+use Rattle.metering.proofs.Patterns.{fieldOf, digitsOf, exact-at, below-at, no-number-refused, accepted-at, beyond-at}
+use Rattle.metering.proofs.Readings.{given, declined, limit-rounded}
+use Rattle.metering.proofs.register_watt_hours.Statement.{statement}
+use Rattle.metering.proofs.register_watt_hours.Tie as tie
+
+-- The exact value at a pattern, in units.
+abbrev at : ℕ → ℕ
+at b = magnitude (fieldOf b) (digitsOf b)
+
+module _ (b : ℕ) (low : b ≤ 2147483648) (field : fieldOf b ≤ 153) where
+  finite : fieldOf b < 255
+  finite = omega arith
+
+  -- Accepted where the value rounded up is within the limit.
+  tested : (t : Bool) → leb (divided Up (at b) unit) limit ≡ t → accepted (Single (ofBits binary32 b)) ≡ t
+  tested t e = accepted-at b low finite ∙ limit-rounded (at b) ∙ e
+
+  too-large : (dir : Direction) → limit < divided Up (at b) unit → Refused ≡ wattHours dir (Single (ofBits binary32 b))
+  too-large dir h = declined dir (Single (ofBits binary32 b)) (tested false (lt-leb _ _ h))
+
+  rounded : (dir : Direction) → divided Up (at b) unit ≤ limit
+      → Rounded (divided dir (at b) unit) ≡ wattHours dir (Single (ofBits binary32 b))
+  rounded dir h =
+      given dir (Single (ofBits binary32 b)) (divided dir (at b) unit) (tested true (le-leb _ _ h))
+      (ap (λ (n : ℕ). divided dir n unit) (exact-at b finite))
+
+returns : tie.Need-returns
+returns c =
+    let a = c .before in
+    declined (a .args .direction) (Single (ofBits binary32 (a .args .bits)))
+    (no-number-refused (ofBits binary32 (a .args .bits)) (below-at (a .args .bits) (a .fits .bits .fits) (c .if1 .taken)))
+
+returns-2 : tie.Need-returns-2
+returns-2 c =
+    let a = c .before .before .args in
+    declined (a .direction) (Single (ofBits binary32 (a .bits))) (beyond-at (a .bits) (c .before .if1 .left) (c .if2 .taken))
+
+round-both-ways-requires : tie.Need-round-both-ways-requires
+round-both-ways-requires c κs = search needs
+
+returns-3 : tie.Need-returns-3
+returns-3 c =
+    let r = c .before .before in
+    let a = r .before .before .before .args in
+    too-large (a .bits) (r .before .before .if1 .left) (r .before .if2 .left) (a .direction)
+    (subst (λ (x : Bounds). limit < x .up) (r .round-both-ways .ensures) (c .if3 .taken))
+
+enum-told : tie.Need-enum-told
+enum-told c = search needs
+
+enum-told-2 : tie.Need-enum-told-2
+enum-told-2 c = search needs
+
+returns-4 : tie.Need-returns-4
+returns-4 c =
+    let r = c .before .before .before .before in
+    let a = r .before .before .before .args in
+    ap (λ (x : Bounds). Rounded (x .up)) (r .round-both-ways .ensures)
+    ∙ rounded (a .bits) (r .before .before .if1 .left) (r .before .if2 .left) Up
+    (subst (λ (x : Bounds). x .up ≤ limit) (r .round-both-ways .ensures) (c .before .before .if3 .left))
+    ∙ ap (λ (d : Direction). wattHours d (Single (ofBits binary32 (a .bits)))) (sym (c .enum-told .given .1))
+
+returns-5 : tie.Need-returns-5
+returns-5 c =
+    let r = c .before .before .before .before in
+    let a = r .before .before .before .args in
+    ap (λ (x : Bounds). Rounded (x .down)) (r .round-both-ways .ensures)
+    ∙ rounded (a .bits) (r .before .before .if1 .left) (r .before .if2 .left) Down
+    (subst (λ (x : Bounds). x .up ≤ limit) (r .round-both-ways .ensures) (c .before .before .if3 .left))
+    ∙ ap (λ (d : Direction). wattHours d (Single (ofBits binary32 (a .bits)))) (sym (c .enum-told2 .given .1))
+
+pub register-watt-hours-spec : {M : Type 1} → statement M
+register-watt-hours-spec =
+    tie.close
+    (tie.spec
+    returns
+    returns-2
+    round-both-ways-requires
+    returns-3
+    enum-told
+    enum-told-2
+    returns-4
+    returns-5)

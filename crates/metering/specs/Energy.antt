@@ -1,0 +1,95 @@
+-- A source's energy from its meters (document 01, "From register to watt-hours", second paragraph, and "Source entry", numbers 2, 3, 4, 6).
+use Prim.Native.Nat.{ℕ, _+_, _-_}
+use mathlib.Core.Bool.{Bool, true, false, not, cond, _&&_, _||_}
+use mathlib.Core.List.{List, [], _∷_, map}
+use lib.Dec.{leb, ltb}
+use lib.ListN.{take}
+use Rattle.rounding.specs.Divided.{divided, opposite, sum}
+use Rattle.rounding.specs.Ratio.{Ratio}
+use Rattle.rounding.specs.declared.Direction.{Direction}
+use Rattle.metering.specs.Reading.{unit, limit, exact, accepted}
+use Rattle.metering.specs.declared.Reading.{Reading}
+use Rattle.metering.specs.declared.Reading.the-variants.{Whole, Single}
+use Rattle.metering.specs.declared.Sign.{Sign}
+use Rattle.metering.specs.declared.Sign.the-variants.{Plus, Minus}
+use Rattle.metering.specs.declared.Interval.{Interval}
+use Rattle.metering.specs.declared.Interval.the-variants.{Counts, Singles}
+use Rattle.metering.specs.declared.Meter.{Meter}
+use Rattle.metering.specs.declared.MetersJudged.{MetersJudged}
+use Rattle.metering.specs.declared.MetersJudged.the-variants as metersJudged
+use Rattle.metering.specs.declared.EnergyJudged.{EnergyJudged}
+use Rattle.metering.specs.declared.EnergyJudged.the-variants as energyJudged
+
+-- "a first and a last reading, both of one kind".
+abbrev pub firstOf : Interval → Reading
+firstOf (Counts f l) = Whole f
+firstOf (Singles r) = Single (r .first)
+
+abbrev pub lastOf : Interval → Reading
+lastOf (Counts f l) = Whole l
+lastOf (Singles r) = Single (r .last)
+
+-- "A meter's energy is last minus first", and the exact energy "is the sum of the + meters less the - meters": the last reading of a
+-- + meter and the first of a - meter add to the energy, and the other two are taken from it.
+abbrev pub addingOf : Sign → Interval → Reading
+addingOf Plus i = lastOf i
+addingOf Minus i = firstOf i
+
+abbrev pub takingOf : Sign → Interval → Reading
+takingOf Plus i = firstOf i
+takingOf Minus i = lastOf i
+
+abbrev pub adding : Meter → Reading
+adding m = addingOf (m .sign) (m .interval)
+
+abbrev pub taking : Meter → Reading
+taking m = takingOf (m .sign) (m .interval)
+
+-- The exact energy e, in Wh.
+unfoldable pub exactEnergy : List Meter → Ratio
+exactEnergy ms =
+    record {
+      plus = sum (map (λ (m : Meter). exact (adding m)) ms);
+      minus = sum (map (λ (m : Meter). exact (taking m)) ms);
+      over = unit;
+    }
+
+-- "For a project or leakage source a + meter takes last up and first down, and a - meter takes last down and first up; for a baseline
+-- source each is the opposite": what adds is rounded in the source's direction, what is taken in the opposite one.
+unfoldable pub roundedAdding : Direction → List Meter → ℕ
+roundedAdding dir ms = sum (map (λ (m : Meter). divided dir (exact (adding m)) unit) ms)
+
+unfoldable pub roundedTaking : Direction → List Meter → ℕ
+roundedTaking dir ms = sum (map (λ (m : Meter). divided (opposite dir) (exact (taking m)) unit) ms)
+
+-- "3 a reading above its limit, a register below zero, infinite or not a number."
+abbrev pub isAccepted : Meter → Bool
+isAccepted m = accepted (firstOf (m .interval)) && accepted (lastOf (m .interval))
+
+-- "4 a last reading below its first, by exact value."
+abbrev pub runsBack : Meter → Bool
+runsBack m = ltb (exact (lastOf (m .interval))) (exact (firstOf (m .interval)))
+
+unfoldable pub every : (Meter → Bool) → List Meter → Bool
+every p [] = true
+every p (m ∷ ms) = p m && every p ms
+
+unfoldable pub some : (Meter → Bool) → List Meter → Bool
+some p [] = false
+some p (m ∷ ms) = p m || some p ms
+
+-- "Each number is tested over all meters before the next."
+unfoldable pub judgedReadings : Direction → List Meter → MetersJudged
+judgedReadings dir ms =
+    cond (not (every isAccepted ms)) (metersJudged.Refused 3)
+    (cond (some runsBack ms) (metersJudged.Refused 4)
+    (metersJudged.Read (roundedAdding dir ms) (roundedTaking dir ms)))
+
+-- "2 meters not 1 to 4"; the source's meters are the first `count` ones.
+unfoldable pub judgedMeters : Direction → ℕ → List Meter → MetersJudged
+judgedMeters dir count ms = cond (leb 1 count && leb count 4) (judgedReadings dir (take count ms)) (metersJudged.Refused 2)
+
+-- "The signed sum of these is E, in Wh, accepted from 0 to 100,000,000,000"; "6 E below 0 or above its limit".
+unfoldable pub settledEnergy : ℕ → ℕ → EnergyJudged
+settledEnergy adds takes =
+    cond (leb takes adds && leb adds (takes + limit)) (energyJudged.Accepted (adds - takes)) (energyJudged.Refused 6)

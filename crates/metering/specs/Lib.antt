@@ -1,0 +1,4 @@
+pub mod Reading
+pub mod Energy
+pub mod Steps
+pub mod Table
