@@ -1,0 +1,141 @@
+"""Lists of calls that break demand 3 once one of its constants is made smaller.
+
+For each case the true inequalities hold and the edited one fails, by exact
+fractions. Prints one line a case: how far off, the true and the edited limit.
+"""
+
+import bisect
+import sys
+from typing import NamedTuple
+
+import reference
+
+
+class Case(NamedTuple):
+    name: str
+    lines: list[str]
+    edited: dict  # a constant of reference.demand_3, made smaller
+    breaks: tuple  # the inequalities, by `what`, that then fail
+
+
+def register_above(watt_hours: int) -> int:
+    """The least register above so many watt-hours: order is that of the bits."""
+    return bisect.bisect_right(range(0x7F800000), watt_hours,
+                               key=lambda r: reference.exact_watt_hours('single', r))
+
+
+def gap_by_factor() -> Case:
+    """Eight readings, each nearly 1 Wh off: E 9 for an e of about 1, U 14 for 1.5."""
+    above_1, above_2 = register_above(1), register_above(2)
+    meters = [f'(single + {above_1 - 1:08x} {last:08x})'
+              for last in (above_1, above_1, above_1, above_2)]
+    return Case('gap, 13 -> 12',
+                ['(grid 10000000 thermal)',
+                 f'(source 0 project (combined) (loss 5000) {" ".join(meters)})'],
+                {'factor_multiple': 12}, ('gap 0 by F and U, g',))
+
+
+def plants_with_32_lines(whole: int) -> list[str]:
+    """1,000 kWh at site 0 and 1,000 × whole + 969.032 mg of 32 lines. Each line
+    loses nearly 1 mg and the quotient nearly 1 mg/kWh: whole + 2 up, whole down."""
+    short = '(fuel 1 1 1)'
+    last = f'(fuel {1000 * (1000 * whole + 969) + 1} 1 1)'
+    return ([f'(plant {n} 0 125 {" ".join(4 * [short])})' for n in range(7)]
+            + [f'(plant 7 0 125 {" ".join(3 * [short] + [last])})'])
+
+
+def either(number: int, side: str, energy: int) -> str:
+    return f'(source {number} {side} (either 0) (loss 5000) (whole + 0 {energy}))'
+
+
+def one_source_on_32_lines() -> list[str]:
+    """At the limit of E, F is 2 for an exact 0.969032."""
+    return ['(grid 0 thermal)', *plants_with_32_lines(0), either(0, 'project', 10**11)]
+
+
+def gap_by_energy() -> Case:
+    return Case('gap, 11 -> 10', one_source_on_32_lines(),
+                {'energy_multiple': 10}, ('gap 0 by F and U, g',))
+
+
+def gap_by_weight() -> Case:
+    return Case('gap, 200 -> 150 kg', one_source_on_32_lines(),
+                {'gap_kilograms': 150}, ('gap 0 by weight, g',))
+
+
+def energy_for(grams: int, factor: int, slack: int) -> int:
+    """E of a source of so many grams with T 5,000, kept off the next gram by `slack` Wh."""
+    return grams * 10**6 * 2 // (factor * 3) + slack
+
+
+def allowances() -> Case:
+    """Captive factors 101 up and 99 down round the grid's 100, so that either takes
+    them on both sides; grams just above, and just below, a whole tonne."""
+    full = 10**11 * 3 // 2 * 101 // 10**6
+    last_of_project = full - 30 * full % 10**6 + 1
+    leakage = full - full % 10**6 + 1
+    baseline = 14 * 10**6 - 1
+    sources = [either(n, 'project', 10**11) for n in range(29)] + [
+        either(29, 'project', energy_for(last_of_project, 101, -2)),
+        either(30, 'leakage', energy_for(leakage, 101, -2)),
+        either(31, 'baseline', energy_for(baseline, 99, 2))]
+    return Case('allowance a source, 200 -> 150 kg',
+                ['(grid 100 thermal)', *plants_with_32_lines(99), *sources],
+                {'allowance_kilograms': 150}, ('project, t', 'leakage, t', 'reduction, t'))
+
+
+def three_sides() -> list[str]:
+    """1 g, 1 g and 999,999 g: each tonne is nearly 1 off."""
+    return ['(grid 1000000 thermal)'] + [
+        f'(source {n} {side} (combined) (loss 0) (whole + 0 {grams}))'
+        for n, (side, grams) in enumerate(
+            (('project', 1), ('leakage', 1), ('baseline', 999_999)))]
+
+
+def reduction_by_tonnes() -> Case:
+    return Case('reduction, 3 -> 2 t', three_sides(), {'reduction_tonnes': 2},
+                ('reduction, t',))
+
+
+def side_by_tonnes() -> Case:
+    return Case('side, 1 -> 0 t', three_sides(), {'side_tonnes': 0},
+                ('project, t', 'leakage, t', 'baseline, t'))
+
+
+CASES = (gap_by_factor, gap_by_energy, gap_by_weight, allowances, reduction_by_tonnes,
+         side_by_tonnes)
+
+
+def text(case: Case) -> bytes:
+    return ''.join(f'{line}\n' for line in [*case.lines, '(report)']).encode()
+
+
+def check(case: Case):
+    given = []
+    reference.tally(text(case), on_report=lambda *both: given.append(both))
+    assert len(given) == 1, f'{case.name}: report refused'
+    ledger, report = given[0]
+    reference.check_demand_3(ledger, report)
+    true = {i.what: i for i in reference.demand_3(ledger, report)}
+    edited = reference.demand_3(ledger, report, **case.edited)
+    broken = [i for i in edited if not i.holds]
+    assert tuple(i.what for i in broken) == case.breaks, f'{case.name}: breaks {broken}'
+    print(f'{case.name}: ' + '; '.join(
+        f'{what} off by {float(off):.6f}, limit {float(true[what].limit):.6f}, '
+        f'edited {float(limit):.6f}' for what, off, limit in broken))
+
+
+def main() -> int:
+    failed = 0
+    for make in CASES:
+        try:
+            check(make())
+        except AssertionError as error:
+            failed += 1
+            print(error)
+    print(f'{len(CASES) - failed} passed, {failed} failed')
+    return 1 if failed else 0
+
+
+if __name__ == '__main__':
+    sys.exit(main())

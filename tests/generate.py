@@ -1,0 +1,559 @@
+"""Inputs for comparing tally with the reference.
+
+    generate.py SEED          writes the random input of a seed
+    generate.py --self-check  runs 300 seeds and the boundary inputs through the
+                              reference and counts what they meet
+"""
+
+import random
+import re
+import sys
+from collections import Counter
+
+import counterexamples
+import reference
+
+LINES = 60
+
+SUPPLIES = ('combined', 'griddefault', 'captive', 'captivedefault', 'either')
+# Fields narrower than the number as written would wrap at these.
+WRAPS = (2**8, 2**16, 2**32)
+LARGEST = 10**18 - 1
+LAST_REGISTER = 0x4CBEBC20  # 100,000,000 kWh
+SPECIAL_REGISTERS = (
+    0x00000000, 0x80000000, 0x00000001, 0x80000001, 0x007FFFFF, 0x00800000, 0x807FFFFF,
+    0x3A83126E, 0x3A83126F, 0x3F800000, 0x42F6E979, 0xBF800000, LAST_REGISTER - 1,
+    LAST_REGISTER, LAST_REGISTER + 1, 0x7F7FFFFF, 0xFF7FFFFF, 0x7F800000, 0xFF800000,
+    0x7F800001, 0x7FC00000, 0xFFC00000, 0x7FFFFFFF, 0xFFFFFFFF)
+# Few, so that P = B and P' = B' come up, and off by one too.
+EQUAL_ENERGIES = (0, 500, 1000, 1000, 1001)
+
+
+# Malformed lines: each takes a line and returns one that should not be a form,
+# though a few of them happen to leave one.
+
+
+def replaced(rng: random.Random, line: bytes, pattern: bytes, new) -> bytes:
+    """One random match of the pattern replaced; a byte appended where none is."""
+    matches = list(re.finditer(pattern, line))
+    if not matches:
+        return line + b'x'
+    match = rng.choice(matches)
+    return line[:match.start()] + new(match[0]) + line[match.end():]
+
+
+def inserted(rng: random.Random, line: bytes, new: bytes) -> bytes:
+    at = rng.randrange(len(line) + 1)
+    return line[:at] + new + line[at:]
+
+
+DAMAGES = (
+    lambda rng, line: replaced(rng, line, b' ', lambda m: b''),
+    lambda rng, line: replaced(rng, line, b' ', lambda m: b'  '),
+    lambda rng, line: replaced(rng, line, b' ', lambda m: b'\t'),
+    lambda rng, line: replaced(rng, line, rb'[()]', lambda m: b''),
+    lambda rng, line: replaced(rng, line, rb'[()]', lambda m: m + m),
+    lambda rng, line: replaced(rng, line, rb'\(', lambda m: b'( '),
+    lambda rng, line: replaced(rng, line, rb'\)', lambda m: b' )'),
+    lambda rng, line: replaced(rng, line, rb' [0-9]', lambda m: b' 0' + m[1:]),
+    lambda rng, line: replaced(rng, line, rb' [0-9]', lambda m: b' -' + m[1:]),
+    lambda rng, line: replaced(rng, line, rb' [0-9]+', lambda m: b' 1' + 18 * b'0'),
+    lambda rng, line: replaced(rng, line, rb' [0-9]+', lambda m: b' ' + 18 * b'9'),
+    lambda rng, line: replaced(rng, line, rb' [0-9]+', lambda m: b' '),
+    lambda rng, line: replaced(rng, line, rb'[a-z]', bytes.upper),
+    lambda rng, line: replaced(rng, line, rb'[a-z]+', lambda m: m[:-1]),
+    lambda rng, line: replaced(rng, line, rb'[0-9a-f]{8}', lambda m: m[1:]),
+    lambda rng, line: replaced(rng, line, rb'[0-9a-f]{8}', lambda m: m.upper()),
+    lambda rng, line: replaced(rng, line, rb'[0-9a-f]{8}', lambda m: m + b'0'),
+    lambda rng, line: replaced(rng, line, rb' [+-]', lambda m: b''),
+    lambda rng, line: replaced(rng, line, rb'(?s).', lambda m: bytes([rng.randrange(256)])),
+    lambda rng, line: inserted(rng, line, b'\0'),
+    lambda rng, line: inserted(rng, line, bytes([rng.randrange(128, 256)])),
+    lambda rng, line: inserted(rng, line, b'\n'),
+    lambda rng, line: line + rng.choice((b' ', b')', b'0', b'\0', b'\xff', line)),
+    lambda rng, line: line + b'\r',
+    lambda rng, line: b' ' + line,
+    lambda rng, line: line[:rng.randrange(len(line))],
+    lambda rng, line: b'',
+    lambda rng, line: line + b' ' * 256,
+)
+
+
+class Generator:
+    """Writes lines and follows them on a ledger, so that it can mend what makes
+    a report refused and reports are given often."""
+
+    def __init__(self, seed: int):
+        self.rng = rng = random.Random(seed)
+        self.ledger = reference.Ledger()
+        self.lines: list[bytes] = []
+        self.malformed = rng.choice((0, 0.03, 0.03, 0.5))
+        self.out_of_range = rng.choice((0, 0.02, 0.06))
+        self.equal_energies = rng.random() < 0.3
+        self.last_source = 5 if self.equal_energies else 31
+
+    def chance(self, probability: float) -> bool:
+        return self.rng.random() < probability
+
+    def emit(self, line: str):
+        """Adds the line, at times damaged, and returns the reference's answer."""
+        data = line.encode()
+        if self.chance(self.malformed):
+            data = self.rng.choice(DAMAGES)(self.rng, data)
+        self.lines.append(data)
+        for part in data.split(b'\n'):
+            answer = reference.perform(self.ledger, part)
+        return answer
+
+    def above(self, limit: int) -> int:
+        wrapping = self.rng.choice(WRAPS) + self.rng.randrange(4)
+        return self.rng.choice((limit + 1, limit + 1, LARGEST, wrapping))
+
+    def number(self, limit: int) -> int:
+        """Mostly within the limit and of any size, at times at it or above."""
+        if self.chance(self.out_of_range):
+            return self.above(limit)
+        if self.chance(0.1):
+            return self.rng.choice((limit - 1, limit))
+        return self.rng.randrange(limit + 1) >> self.rng.randrange(limit.bit_length() + 1)
+
+    def index(self, highest: int) -> int:
+        if self.chance(self.out_of_range):
+            return self.above(highest)
+        return self.rng.randint(0, highest)
+
+    # Readings and meters
+
+    def any_register(self) -> int:
+        if self.chance(0.4):
+            return self.rng.choice(SPECIAL_REGISTERS)
+        fraction = self.rng.choice((0, 1, 0x7FFFFF, self.rng.randrange(0x800000)))
+        return self.rng.randrange(512) << 23 | fraction
+
+    def single_readings(self, sign: str) -> tuple[int, int]:
+        """A - meter mostly moves little, so that E is mostly not below 0."""
+        if self.chance(self.out_of_range):
+            return self.any_register(), self.any_register()
+        if self.chance(0.2):
+            first = self.rng.choice((0x00000000, 0x80000000))
+            return first, self.rng.choice((first, self.rng.randrange(LAST_REGISTER + 1)))
+        if self.chance(0.6):  # 0.5 Wh to 500 MWh
+            first = self.rng.randrange(0x3A000000, 0x49000000)
+        else:
+            first = self.rng.randrange(LAST_REGISTER + 1)
+        far = 0x02000000 if sign == '+' else 0x100
+        moved = self.rng.choice((0, 1, 2, *3 * [self.rng.randrange(far)]))
+        return first, min(first + moved, LAST_REGISTER)
+
+    def whole_readings(self, sign: str) -> tuple[int, int]:
+        if self.equal_energies:
+            first = self.rng.choice((0, 7))
+            return first, first + self.rng.choice(EQUAL_ENERGIES)
+        first, last = self.number(10**11), self.number(10**11)
+        if sign == '-' and self.chance(0.9):
+            return first, first + self.rng.randint(0, 9)
+        if not self.chance(0.05):
+            first, last = min(first, last), max(first, last)
+        return first, last
+
+    def meter(self, sign: str) -> str:
+        if self.chance(0.5) and not self.equal_energies:
+            return '(single {} {:08x} {:08x})'.format(sign, *self.single_readings(sign))
+        return '(whole {} {} {})'.format(sign, *self.whole_readings(sign))
+
+    def meters(self) -> list[str]:
+        if self.chance(0.03):
+            return [self.meter('+')] * self.rng.choice((0, 5, 6))
+        count = self.rng.choice((1, 1, 1, 2, 3, 4))
+        signs = [self.rng.choice('++-') for _ in range(count)]
+        if not self.chance(0.1):
+            signs[0] = '+'
+        return [self.meter(sign) for sign in signs]
+
+    # Calls
+
+    def grid(self) -> str:
+        return f'(grid {self.number(10_000_000)} {self.rng.choice(("thermal", "hydro"))})'
+
+    def fuel(self, generation: int) -> str:
+        """Burnt for so many kWh, mostly at less than 10,000,000 mg/kWh."""
+        if self.chance(0.2):
+            return (f'(fuel {self.number(10**8)} {self.number(149_999) + 1}'
+                    f' {self.number(200_000)})')
+        if self.chance(0.4):
+            return '(fuel {} {} {})'.format(*(self.rng.randint(1, 12) for _ in range(3)))
+        return (f'(fuel {self.rng.randint(0, generation)} {self.rng.randint(1, 43_000)}'
+                f' {self.rng.randint(0, 74_100)})')
+
+    def tight_fuels(self, generation: int) -> list[str]:
+        """Lines a little above or below whole milligrams, whose sum is near a whole
+        factor: it shows whether each line is rounded, or their sum."""
+        near = generation * self.rng.randint(1, max(1, 90_000 // generation))
+        parts = self.rng.choice((1, 999))
+        rest = 1000 * (near - self.rng.randint(0, 4)) + parts
+        return 3 * [f'(fuel {parts} 1 1)'] + [f'(fuel {min(rest, 10**8)} 1 1)']
+
+    def plant(self) -> str:
+        generation = self.rng.choice((500, 999, 1000, 7000, self.number(100_000_000)))
+        # 0 to 3 mostly keep the plants that bring their sites above 1,000 kWh.
+        number = self.index(7) if self.chance(0.3) else self.rng.randint(4, 7)
+        return self.plant_at(number, self.index(3), generation)
+
+    def plant_at(self, number: int, site: int, generation: int) -> str:
+        if generation > 0 and self.chance(0.3):
+            fuels = self.tight_fuels(generation)
+        else:
+            count = self.rng.choice((0, 1, 1, 2, 3, 4, 4, self.rng.randint(0, 6)))
+            fuels = [self.fuel(generation) for _ in range(count)]
+        return ' '.join([f'(plant {number} {site} {generation}', *fuels]) + ')'
+
+    def loss(self, supply: str) -> str:
+        if self.chance(0.03):
+            return self.rng.choice(('none', 'default20', 'loss 5001', 'loss 0'))
+        if supply in ('captive', 'captivedefault'):
+            return 'none'
+        measured = f'loss {self.number(5_000)}'
+        return self.rng.choice((measured, measured, 'loss 5000', 'default20', 'default3'))
+
+    def source(self) -> str:
+        side = self.rng.choice(reference.SIDES)
+        more = ('griddefault', 'griddefault') if self.equal_energies else ()
+        supply = self.rng.choice(SUPPLIES + more)
+        site = f' {self.index(3)}' if supply in reference.SITE_SUPPLIES else ''
+        return ' '.join([f'(source {self.index(self.last_source)} {side} ({supply}{site})'
+                         f' ({self.loss(supply)})', *self.meters()]) + ')'
+
+    def drop(self) -> str:
+        kind, standing, highest = self.rng.choice((
+            ('source', self.ledger.sources, 31), ('plant', self.ledger.plants, 7)))
+        if standing and self.chance(0.7):
+            return f'(drop {kind} {self.rng.choice(sorted(standing))})'
+        return f'(drop {kind} {self.number(highest)})'
+
+    def mend(self, refused: reference.Refused) -> str:
+        """A call after which a refused report gets further."""
+        source = self.ledger.sources[refused.source]
+        if refused.number == 8:
+            return self.grid()
+        if refused.number == 9 and self.chance(0.7):
+            site, generation = source.supply.site, self.rng.choice((999, 1000, 7000))
+            return self.plant_at(site, site, generation)
+        return f'(drop source {refused.source})'
+
+    def report(self):
+        """A report, and often others after what keeps it from being given."""
+        answer = self.emit('(report)')
+        while isinstance(answer, reference.Refused) and self.chance(0.85):
+            self.emit(self.mend(answer))
+            answer = self.emit('(report)')
+
+    def beginning(self):
+        """Mostly a grid and plants, without which few reports are given."""
+        if self.chance(0.8):
+            self.emit(self.grid())
+        for site in range(4):
+            if self.chance(0.8):
+                generation = self.rng.choice((1000, 1001, 7000, 10**8))
+                self.emit(self.plant_at(site, site, generation))
+
+    def text(self) -> bytes:
+        self.beginning()
+        calls = (self.grid, self.plant, self.source, self.drop, self.report)
+        while len(self.lines) < LINES:
+            call = self.rng.choices(calls, (1, 2, 9, 2, 2))[0]
+            line = call()
+            if line is not None:
+                self.emit(line)
+        self.report()
+        return b'\n'.join(self.lines) + (b'' if self.chance(0.2) else b'\n')
+
+
+def random_input(seed: int) -> bytes:
+    return Generator(seed).text()
+
+
+# Inputs made by hand
+
+
+def joined(lines) -> bytes:
+    return ''.join(f'{line}\n' for line in lines).encode()
+
+
+def listing() -> bytes:
+    return joined(['(grid 812400 thermal)', '(plant 0 1 7000 (fuel 1000 43000 74100))',
+                   '(source 0 project (combined) (default20) (whole + 0 1000001))',
+                   '(source 1 baseline (captive 1) (none) (whole + 0 500003))', '(report)'])
+
+
+def every_exponent(sign: int, side: str, readings: str) -> bytes:
+    """1 g a Wh, so that each report shows E."""
+    lines = ['(grid 1000000 hydro)']
+    for exponent in range(256):
+        for fraction in (0, 0x2AAAAB, 0x7FFFFF):
+            pair = readings.format(f'{sign << 31 | exponent << 23 | fraction:08x}')
+            lines += [f'(source 0 {side} (combined) (loss 0) (single + {pair}))', '(report)']
+    return joined(lines)
+
+
+def registers_at_rest() -> bytes:
+    lines = ['(grid 1000000 hydro)']
+    for side in ('project', 'baseline'):
+        for register in SPECIAL_REGISTERS:
+            for sign in '+-':
+                meter = f'(single {sign} {register:08x} {register:08x})'
+                lines += [f'(source 0 {side} (combined) (loss 0) {meter} (whole + 0 9))',
+                          '(report)']
+    return joined(lines)
+
+
+def register_pairs() -> bytes:
+    """Order is by exact value: negative zero is not below zero."""
+    return joined(f'(source 0 leakage (combined) (loss 0) (single - {a:08x} {b:08x})'
+                  ' (whole + 0 100000000000))'
+                  for a in SPECIAL_REGISTERS for b in SPECIAL_REGISTERS)
+
+
+def around(limit: int) -> list[int]:
+    """The limit, its neighbours, and what would wrap to a small number."""
+    return [limit - 1, limit, limit + 1, *(w + 1 for w in WRAPS), LARGEST, LARGEST + 1]
+
+
+FIELDS = (
+    ('(grid {} hydro)', 10_000_000), ('(plant {} 0 0)', 7), ('(plant 0 {} 0)', 3),
+    ('(plant 0 0 {})', 100_000_000), ('(plant 0 0 0 (fuel {} 1 0))', 100_000_000),
+    ('(plant 0 0 0 (fuel 0 {} 0))', 1), ('(plant 0 0 0 (fuel 0 {} 0))', 150_000),
+    ('(plant 0 0 0 (fuel 0 1 0) (fuel 0 1 {}))', 200_000),
+    ('(source {} project (combined) (loss 0) (whole + 0 1))', 31),
+    ('(source 0 project (captive {}) (none) (whole + 0 1))', 3),
+    ('(source 0 project (either {}) (loss 0) (whole + 0 1))', 3),
+    ('(source 0 project (combined) (loss {}) (whole + 0 1))', 5_000),
+    ('(source 0 project (combined) (loss 0) (whole + 0 {}))', 100_000_000_000),
+    ('(source 0 project (combined) (loss 0) (whole + {} 100000000000))', 100_000_000_000),
+    ('(source 0 baseline (combined) (loss 0) (whole + 0 {}) (whole + 0 1))', 99_999_999_999),
+    ('(source 0 baseline (combined) (loss 0) (whole + 0 {}) (whole - 0 5))', 5),
+    ('(drop source {})', 31), ('(drop plant {})', 7))
+
+
+def limits() -> bytes:
+    return joined(form.format(value) for form, limit in FIELDS for value in around(limit))
+
+
+def generation_limits() -> bytes:
+    """9 and 10 at and around their limits; 10,000,000,000 mg is 10,000,000 mg/kWh."""
+    lines = ['(source 0 project (captive 0) (none) (whole + 0 3))',
+             '(source 1 baseline (captive 0) (none) (whole + 0 3))']
+    for generation in (999, 1000, 1001):
+        for extra in ('', ' (fuel 1 1 1)', ' (fuel 999999 1 1)', ' (fuel 1000000 1 1)'):
+            lines += [f'(plant 0 0 {generation} (fuel 100000000 1000 100){extra})', '(report)']
+            lines += ['(drop source 0)', '(report)',
+                      '(source 0 project (captive 0) (none) (whole + 0 3))']
+    lines += ['(plant 0 0 500)', '(plant 1 1 500)', '(report)', '(plant 1 0 499)', '(report)',
+              '(plant 7 0 1)', '(report)', '(drop plant 7)', '(report)']
+    return joined(lines)
+
+
+def alone_at_zero() -> bytes:
+    """Nothing to compare with, and sums of 0: a default is open by who stands."""
+    lines = ['(plant 0 0 1000)', '(grid 5 hydro)']
+    for side in reference.SIDES:
+        for supply in ('griddefault) (loss 0', 'griddefault) (default20', 'either 0) (default3',
+                       'captivedefault) (none', 'captive 0) (none'):
+            lines += [f'(source {n} {side} ({supply}) (whole + 0 {energy}))'
+                      for n, energy in ((3, 0), (2, 0))] + ['(report)']
+            lines += [f'(source 2 {side} ({supply}) (whole + 0 700001))', '(report)']
+    return joined(lines)
+
+
+def comparisons() -> bytes:
+    """P against B and P' against B' one below, equal and one above."""
+    lines = ['(plant 0 0 1000)']
+    for mark in ('thermal', 'hydro'):
+        lines.append(f'(grid 700001 {mark})')
+        for supply in ('combined', 'griddefault', 'either 0'):
+            for loss in ('default20', 'default3', 'loss 1'):
+                for energy in (999, 1000, 1001):
+                    lines += [
+                        f'(source 0 leakage ({supply}) ({loss}) (whole + 0 1000))',
+                        f'(source 1 baseline (griddefault) ({loss}) (whole + 0 {energy}))',
+                        '(report)']
+        lines += ['(drop source 0)', '(report)', '(drop source 1)', '(report)']
+    return joined(lines)
+
+
+def largest_report() -> bytes:
+    """32 sources at every limit; 32 fuel lines first above the factor's limit, then
+    at it, with a combined margin that either takes for baseline alone."""
+    lines = ['(grid 9999999 thermal)']
+    for calorific, content in ((150_000, 200_000), (50_000, 50_000)):
+        fuel = f'(fuel 100000000 {calorific} {content})'
+        lines += [f'(plant {n} 3 100000000 {" ".join([fuel] * 4)})' for n in range(8)]
+        for supply in ('combined) (loss 5000', 'either 3) (loss 5000', 'captive 3) (none'):
+            for side in reference.SIDES:
+                lines += [f'(source {n} {side} ({supply}) (whole + 0 100000000000))'
+                          for n in range(32)] + ['(report)']
+    return joined(lines)
+
+
+def counts() -> bytes:
+    """Any count of fuel lines or meters is a form, up to the length of a line."""
+    lines = ['(plant 0 0 1000' + n * ' (fuel 1 1 1)' + ')' for n in range(20)]
+    lines += ['(source 0 project (combined) (loss 0)' + n * ' (whole + 0 1)' + ')'
+              for n in range(17)]
+    lines += ['(source 0 project (combined) (loss 0)' + n * ' (single - 00000000 00000000)' + ')'
+              for n in range(9)]
+    return joined(lines)
+
+
+def line_lengths() -> bytes:
+    """The same entry at 255, 256 and 257 bytes: refused 2, 2 and 14."""
+    lines = []
+    for length in (255, 256, 257):
+        line = '(plant 0 0 1000' + 18 * ' (fuel 1 1 1)' + ')'
+        lines.append(line.replace(' 1000', ' 1' + (length - len(line) + 3) * '0'))
+    return joined(lines)
+
+
+def source_precedence() -> bytes:
+    """Each set of defects in a source entry: the first number of the set answers."""
+    lines = []
+    for defects in range(64):
+        has = [defects >> bit & 1 for bit in range(6)]
+        meters = ['(whole - 0 1)' if has[5] else '(whole + 0 1)']
+        meters += ['(single + 3f800001 3f800000)'] * has[3]
+        meters += ['(single - 00000000 7fc00000)'] * has[2]
+        meters += ['(whole + 5 5)'] * 4 * has[1]
+        loss = 'none' if has[4] else 'loss 1'
+        lines.append(f'(source {31 + has[0]} project (combined) ({loss}) {" ".join(meters)})')
+        lines.append(f'(source 0 project (captive {3 + has[0]})'
+                     f' ({"default3" if has[4] else "none"}) {" ".join(meters)})')
+    return joined(lines)
+
+
+def report_precedence() -> bytes:
+    """One source with several reasons to refuse, taken away one by one."""
+    lines = ['(source 9 project (either 0) (default3) (whole + 0 1000))',
+             '(source 20 baseline (griddefault) (default20) (whole + 0 1000))',
+             '(source 5 leakage (griddefault) (default3) (whole + 0 1000))']
+    mends = ['(grid 1 hydro)', '(drop source 5)', '(plant 0 0 999 (fuel 100000000 1000 101))',
+             '(plant 1 0 1)', '(plant 0 0 1000)',
+             '(source 21 baseline (combined) (loss 0) (whole + 0 1))', '(drop source 20)',
+             '(source 22 baseline (combined) (loss 0) (whole + 0 999))',
+             '(source 22 baseline (combined) (loss 0) (whole + 0 1000))']
+    for mend in mends:
+        lines += ['(report)', mend]
+    return joined([*lines, '(report)'])
+
+
+SAMPLES = ('(grid 812400 thermal)', '(grid 1 hydro)', '(plant 0 1 7000 (fuel 1000 43000 74100))',
+           '(source 10 project (captive 1) (none) (whole + 10 11))',
+           '(source 0 leakage (either 1) (loss 20) (single - 3f800000 4cbebc20))',
+           '(source 0 baseline (griddefault) (default3) (whole - 0 0))',
+           '(source 0 baseline (captivedefault) (default20))', '(drop source 0)',
+           '(drop plant 0)', '(report)')
+
+
+def edited_at_each_place(edit) -> bytes:
+    """Each sample line, once for each byte of it, with that byte edited."""
+    lines = []
+    for sample in SAMPLES:
+        data = sample.encode()
+        for at in range(len(data)):
+            lines.append(data[:at] + edit(data[at:at + 1]) + data[at + 1:])
+    return b'\n'.join(lines)
+
+
+def malformed_by_place() -> list[bytes]:
+    return [edited_at_each_place(edit) for edit in (
+        lambda byte: b'', lambda byte: byte + byte, lambda byte: b' ', lambda byte: b'0',
+        lambda byte: byte.swapcase(), lambda byte: b'\0', lambda byte: b'\r',
+        lambda byte: b'\n', lambda byte: bytes([byte[0] ^ 0x80]), lambda byte: b')' + byte)]
+
+
+def sizes() -> list[bytes]:
+    drops = b'(drop source 0)\n' * 4096  # 65,536 bytes
+    return [b'', b'\n', b'\n\n', b'(report)', b'(report)\n', b'(report)\n\n', b'(report)\r\n',
+            drops, drops[:-1], drops + b'\n', b'\n' * 65_536, b'\n' * 65_537,
+            b'(' * 65_536, b'(' * 65_537, b'(report)\n' * 7_281 + b'(report']
+
+
+def boundary_inputs() -> list[bytes]:
+    return [
+        listing(), listing()[:-1], listing().replace(b'\n', b'\r\n'), *sizes(),
+        *(every_exponent(sign, side, readings) for sign in (0, 1)
+          for side in ('project', 'baseline')
+          for readings in ('00000000 {}', '{} 4cbebc20')),
+        registers_at_rest(), register_pairs(), limits(), generation_limits(), alone_at_zero(),
+        comparisons(),
+        source_precedence(), report_precedence(), largest_report(), counts(),
+        line_lengths(), *malformed_by_place(),
+        *(counterexamples.text(make()) for make in counterexamples.CASES)]
+
+
+# The self-check
+
+
+class Met:
+    """What the inputs meet on the reference."""
+
+    def __init__(self):
+        self.refusals = Counter()
+        self.inputs = self.given = self.reports = self.mostly_malformed = 0
+        self.sign_and_exponent = set()
+        self.kinds = set()  # of the sources in reports given
+        self.most_sources = 0
+
+    def run(self, data: bytes):
+        output = reference.tally(data, on_report=self.report_given)
+        answers = re.findall(rb'^(ok|refused [0-9]+|reduction)', output, re.MULTILINE)
+        refusals = Counter(int(a.split()[1]) for a in answers if a.startswith(b'refused'))
+        self.refusals += refusals
+        self.inputs += 1
+        self.reports += sum(refusals[n] for n in range(8, 14)) + answers.count(b'reduction')
+        self.mostly_malformed += 3 * refusals[14] >= len(answers) > 0
+        self.sign_and_exponent |= {
+            int(register, 16) >> 23 for register in re.findall(rb'\b[0-9a-f]{8}\b', data)}
+
+    def report_given(self, ledger: reference.Ledger, report: reference.Report):
+        reference.check_demand_3(ledger, report)
+        self.given += 1
+        self.most_sources = max(self.most_sources, len(ledger.sources))
+        self.kinds |= {(source.side, source.supply.name, source.loss.name,
+                        report.figures[number].option)
+                       for number, source in ledger.sources.items()}
+
+    def show(self, name: str):
+        refusals = ', '.join(f'{n}: {self.refusals[n]}' for n in sorted(self.refusals))
+        print(f'{name}: {self.inputs} inputs, {self.given} of {self.reports} reports given, '
+              f'{self.mostly_malformed} inputs with a third or more malformed')
+        print(f'  refusals {refusals}')
+        print(f'  in reports given, {len(self.kinds)} kinds of sources and up to '
+              f'{self.most_sources} sources')
+
+
+def self_check(seeds: int = 300):
+    at_random, by_hand = Met(), Met()
+    for seed in range(seeds):
+        at_random.run(random_input(seed))
+    for data in boundary_inputs():
+        by_hand.run(data)
+    at_random.show('at random')
+    by_hand.show('by hand')
+    expected = {*range(1, 13), 14}
+    assert set(at_random.refusals) == expected, 'refusals met at random'
+    assert set(by_hand.refusals) == expected, 'refusals met by hand'
+    assert at_random.given * 3 >= at_random.reports, 'reports seldom given'
+    assert at_random.mostly_malformed * 10 >= seeds, 'malformed inputs seldom made'
+    # 3 sides by 3 losses by combined, griddefault and either with its two options;
+    # 3 sides by captive and captivedefault
+    assert len(at_random.kinds) == 42, 'not every kind of source reported'
+    assert len(by_hand.sign_and_exponent) == 512, 'not every sign and exponent met'
+    assert random_input(1) == random_input(1) != random_input(2), 'not by seed'
+
+
+if __name__ == '__main__':
+    if sys.argv[1:] == ['--self-check']:
+        self_check()
+    elif len(sys.argv) == 2 and sys.argv[1].isdecimal():
+        sys.stdout.buffer.write(random_input(int(sys.argv[1])))
+    else:
+        sys.exit(__doc__)

@@ -1,0 +1,664 @@
+"""A second implementation of document 01, to compare the program tally with.
+
+Written from document 01 alone, with an exact fraction wherever the paper has
+an exact value. Comments in quotation marks are the paper's sentences; a bare
+number in a comment is the refusal that the line decides.
+"""
+
+import functools
+import math
+import re
+import sys
+from fractions import Fraction
+from typing import NamedTuple
+
+# An accepted entry or drop. A refused one answers its number.
+OK = None
+
+SIDES = ('project', 'leakage', 'baseline')
+
+
+class Refused(NamedTuple):
+    """A refusal, where a bare number could be taken for a result."""
+
+    number: int
+    source: int | None = None
+
+
+# 1. Rounding
+
+
+def rounded(value: Fraction, up: bool) -> int:
+    """Up: the least whole number not below; down: the greatest not above."""
+    return math.ceil(value) if up else math.floor(value)
+
+
+def rounds_up(side: str) -> bool:
+    # "Project and leakage sources round up at every step, baseline sources down."
+    return side != 'baseline'
+
+
+# 2. Readings
+
+# "whole (watt-hours, 0 to 100,000,000,000)"
+# "single (an IEEE 754 binary32 register in kWh, 0 to 100,000,000)"
+READING_LIMIT_WH = 100_000_000_000
+
+
+def register_value(register: int) -> Fraction | None:
+    """A binary32 register by its fields; None if infinite or not a number."""
+    sign = -1 if register >> 31 else 1
+    exponent = (register >> 23) & 0xFF
+    fraction = register & 0x7FFFFF
+    if exponent == 0xFF:
+        return None
+    if exponent == 0:  # zero and the subnormals: no hidden bit
+        return sign * fraction * Fraction(2) ** -149
+    return sign * (0x800000 + fraction) * Fraction(2) ** (exponent - 150)
+
+
+@functools.cache
+def exact_watt_hours(kind: str, value: int) -> Fraction | None:
+    """A reading's exact value: "1,000 times the register" for a single."""
+    if kind == 'whole':
+        return Fraction(value)
+    kilowatt_hours = register_value(value)
+    return None if kilowatt_hours is None else 1000 * kilowatt_hours
+
+
+def reading_refused(kind: str, value: int) -> bool:
+    """3: "above its limit, a register below zero, infinite or not a number"."""
+    exact = exact_watt_hours(kind, value)
+    # "negative zero is zero": its exact value is plain 0
+    return exact is None or not 0 <= exact <= READING_LIMIT_WH
+
+
+@functools.cache
+def reading_watt_hours(kind: str, value: int, up: bool) -> int | Refused:
+    if reading_refused(kind, value):
+        return Refused(3)
+    return rounded(exact_watt_hours(kind, value), up)
+
+
+# 3. Meters and the energy of a source
+
+ENERGY_LIMIT_WH = 100_000_000_000
+
+
+class Meter(NamedTuple):
+    # "A meter has a sign, + or -, and a first and a last reading, both of one kind."
+    kind: str  # 'whole' or 'single'
+    sign: str  # '+' or '-'
+    first: int
+    last: int
+
+
+def judge_meters(side: str, meters: list[Meter]) -> int | tuple[int, int]:
+    """2, 3 or 4, "each number tested over all meters before the next";
+    otherwise the watt-hours that add and those that take."""
+    if not 1 <= len(meters) <= 4:
+        return 2
+    if any(reading_refused(m.kind, r) for m in meters for r in (m.first, m.last)):
+        return 3
+    if any(exact_watt_hours(m.kind, m.last) < exact_watt_hours(m.kind, m.first)
+           for m in meters):
+        return 4
+    return meter_sums(rounds_up(side), meters)
+
+
+def meter_sums(up: bool, meters: list[Meter]) -> tuple[int, int]:
+    """For project and leakage "a + meter takes last up and first down, and a
+    - meter takes last down and first up"; for baseline "each is the opposite"."""
+    adds = takes = 0
+    for meter in meters:
+        if meter.sign == '+':
+            adds += reading_watt_hours(meter.kind, meter.last, up)
+            takes += reading_watt_hours(meter.kind, meter.first, not up)
+        else:
+            adds += reading_watt_hours(meter.kind, meter.first, up)
+            takes += reading_watt_hours(meter.kind, meter.last, not up)
+    return adds, takes
+
+
+def energy_refused(adds: int, takes: int) -> bool:
+    """6: "E below 0 or above its limit"."""
+    return not 0 <= adds - takes <= ENERGY_LIMIT_WH
+
+
+def exact_energy(meters: list[Meter]) -> Fraction:
+    """e: "the sum of the + meters less the - meters", each last minus first."""
+    total = Fraction(0)
+    for meter in meters:
+        moved = (exact_watt_hours(meter.kind, meter.last)
+                 - exact_watt_hours(meter.kind, meter.first))
+        total += moved if meter.sign == '+' else -moved
+    return total
+
+
+# 4. Fuel lines
+
+
+class FuelLine(NamedTuple):
+    quantity: int  # Q, mass or volume units
+    net_calorific_value: int  # V, kJ a unit
+    emission_factor: int  # C, mg CO2 a MJ
+
+
+def fuel_refused(line: FuelLine) -> bool:
+    """2: "Q above 100,000,000, V outside 1 to 150,000, or C above 200,000"."""
+    return (line.quantity > 100_000_000
+            or not 1 <= line.net_calorific_value <= 150_000
+            or line.emission_factor > 200_000)
+
+
+def exact_fuel_milligrams(Q: int, V: int, C: int) -> Fraction:
+    # "Each fuel line of each plant at S gives Q × V × C ÷ 1,000 mg"
+    return Fraction(Q * V * C, 1000)
+
+
+def fuel_milligrams(Q: int, V: int, C: int, up: bool) -> int:
+    return rounded(exact_fuel_milligrams(Q, V, C), up)
+
+
+# 5. The ledger: what stands after the calls so far
+
+MEASURED_LOSS_LIMIT = 5_000  # T, ten-thousandths
+FACTOR_LIMIT = 10_000_000  # F, mg/kWh
+
+GRID_SUPPLIES = ('combined', 'griddefault', 'either')
+SITE_SUPPLIES = ('captive', 'either')
+
+
+class Grid(NamedTuple):
+    combined_margin: int  # mg/kWh
+    mark: str  # 'thermal' or 'hydro'
+
+
+class Plant(NamedTuple):
+    site: int
+    generation: int  # kWh
+    fuel_lines: list[FuelLine]
+
+
+class Supply(NamedTuple):
+    name: str  # combined, griddefault, captive, captivedefault or either
+    site: int | None = None  # captive and either
+
+
+class Loss(NamedTuple):
+    name: str  # loss, default20, default3 or none
+    measured: int | None = None  # T of a measured loss
+
+
+class Source(NamedTuple):
+    side: str
+    supply: Supply
+    loss: Loss
+    meters: list[Meter]
+
+    @property
+    def energy(self) -> int:
+        """E, "the signed sum of these"."""
+        adds, takes = meter_sums(rounds_up(self.side), self.meters)
+        return adds - takes
+
+
+class Ledger:
+    """What stands. A refused call returns before it stores."""
+
+    def __init__(self):
+        # "A new ledger is empty."
+        self.grid: Grid | None = None
+        self.plants: dict[int, Plant] = {}
+        self.sources: dict[int, Source] = {}
+
+    def enter_grid(self, combined_margin: int, mark: str) -> int | None:
+        if combined_margin > FACTOR_LIMIT:
+            return 2
+        self.grid = Grid(combined_margin, mark)
+        return OK
+
+    def enter_plant(self, number: int, plant: Plant) -> int | None:
+        if number > 7 or plant.site > 3:
+            return 1
+        if len(plant.fuel_lines) > 4 or plant.generation > 100_000_000:
+            return 2
+        if any(fuel_refused(line) for line in plant.fuel_lines):
+            return 2
+        self.plants[number] = plant
+        return OK
+
+    def enter_source(self, number: int, source: Source) -> int | None:
+        refusal = source_refused(number, source)
+        if refusal is not OK:
+            return refusal
+        self.sources[number] = source
+        return OK
+
+    def drop_plant(self, number: int) -> int | None:
+        return drop(self.plants, number, highest=7)
+
+    def drop_source(self, number: int) -> int | None:
+        return drop(self.sources, number, highest=31)
+
+
+def source_refused(number: int, source: Source) -> int | None:
+    """The refusals 1 to 6 of a source entry, in the order tested."""
+    if number > 31 or (source.supply.site is not None and source.supply.site > 3):
+        return 1
+    if source.loss.name == 'loss' and source.loss.measured > MEASURED_LOSS_LIMIT:
+        return 2
+    judged = judge_meters(source.side, source.meters)  # 2, 3 and 4
+    if isinstance(judged, int):
+        return judged
+    # "5 loss none with combined, griddefault or either, or another loss with
+    # captive or captivedefault."
+    if (source.loss.name == 'none') == (source.supply.name in GRID_SUPPLIES):
+        return 5
+    if energy_refused(*judged):
+        return 6
+    return OK
+
+
+def drop(standing: dict, number: int, highest: int) -> int | None:
+    # "1 number above its range. 7 nothing stands there."
+    if number > highest:
+        return 1
+    if number not in standing:
+        return 7
+    del standing[number]
+    return OK
+
+
+# 6. The report
+
+
+class Totals(NamedTuple):
+    """Sums of E and numbers of sources; `project` counts leakage with it."""
+
+    project: int
+    baseline: int
+    project_sources: int
+    baseline_sources: int
+
+
+class Figure(NamedTuple):
+    energy: int  # E
+    loss: int  # T
+    energy_with_losses: int  # U
+    option: str  # the supply that F is taken from; tells which one `either` chose
+    factor: int  # F
+    grams: int
+
+
+class SideReport(NamedTuple):
+    tonnes: int
+    grams: int
+    sources: int
+
+
+class Report(NamedTuple):
+    figures: dict[int, Figure]
+    sides: dict[str, SideReport]
+    reduction: int
+
+
+def totals_over(ledger: Ledger, supplies: tuple) -> Totals:
+    """The sum of E "over project and leakage sources" with one of these supplies,
+    and "over baseline sources"."""
+    chosen = [s for s in ledger.sources.values() if s.supply.name in supplies]
+    project = [s.energy for s in chosen if s.side in ('project', 'leakage')]
+    baseline = [s.energy for s in chosen if s.side == 'baseline']
+    return Totals(sum(project), sum(baseline), len(project), len(baseline))
+
+
+def grid_default_factor(ledger: Ledger) -> int | None:
+    """griddefault: F by P and B; None where "it is not open"."""
+    sums = totals_over(ledger, ('combined', 'griddefault'))
+    # "F is 1,300,000 if no such baseline source stands or P > B."
+    if sums.baseline_sources == 0 or sums.project > sums.baseline:
+        return 1_300_000
+    # "F is 400,000 (grid marked thermal) or 250,000 (marked hydro ...) if no
+    # such project or leakage source stands or B > P."
+    if sums.project_sources == 0 or sums.baseline > sums.project:
+        return 400_000 if ledger.grid.mark == 'thermal' else 250_000
+    return None
+
+
+def transmission_loss(ledger: Ledger, source: Source) -> int | None:
+    """T; None where a default loss is not open. P' and B' are sums "over
+    combined, griddefault and either"."""
+    if source.loss.name == 'none':
+        return 0
+    if source.loss.name == 'loss':
+        return source.loss.measured
+    sums = totals_over(ledger, GRID_SUPPLIES)
+    if source.loss.name == 'default20':
+        # "open to project and leakage always, to baseline if P' > B'"
+        is_open = source.side != 'baseline' or sums.project > sums.baseline
+        return 2_000 if is_open else None
+    # default3: "open to baseline always, to project and leakage if P' < B'"
+    is_open = source.side == 'baseline' or sums.project < sums.baseline
+    return 300 if is_open else None
+
+
+def plants_at(ledger: Ledger, site: int) -> list[Plant]:
+    return [plant for plant in ledger.plants.values() if plant.site == site]
+
+
+def generation_at(ledger: Ledger, site: int) -> int:
+    """The plants' summed generation, "no plant counts as 0"."""
+    return sum(plant.generation for plant in plants_at(ledger, site))
+
+
+def captive_factor(ledger: Ledger, site: int, up: bool) -> int:
+    # "F is the sum of these rounded lines over the plants' summed generation in kWh"
+    milligrams = sum(fuel_milligrams(*line, up)
+                     for plant in plants_at(ledger, site)
+                     for line in plant.fuel_lines)
+    return rounded(Fraction(milligrams, generation_at(ledger, site)), up)
+
+
+def emission_factor(ledger: Ledger, source: Source) -> tuple[str, int]:
+    """The supply that F is taken from, and F. Refusals 8 to 11 are ruled out."""
+    name, site = source.supply
+    up = rounds_up(source.side)
+    if name == 'combined':
+        return name, ledger.grid.combined_margin
+    if name == 'griddefault':
+        return name, grid_default_factor(ledger)
+    if name == 'captivedefault':
+        # "1,300,000 for project and leakage, 400,000 for baseline"
+        return name, 400_000 if source.side == 'baseline' else 1_300_000
+    captive = captive_factor(ledger, site, up)
+    if name == 'captive':
+        return name, captive
+    # either: "the greater of combined and captive for project and leakage, the
+    # smaller for baseline"; "of two equal factors under either, combined".
+    combined = ledger.grid.combined_margin
+    takes_captive = captive > combined if up else captive < combined
+    return ('captive', captive) if takes_captive else ('combined', combined)
+
+
+def figure_refused(ledger: Ledger, source: Source) -> int | None:
+    """The refusals 8 to 12 of one source, in the order tested."""
+    name, site = source.supply
+    if name in GRID_SUPPLIES and ledger.grid is None:
+        return 8
+    if name in SITE_SUPPLIES:
+        if generation_at(ledger, site) < 1_000:
+            return 9
+        if captive_factor(ledger, site, rounds_up(source.side)) > FACTOR_LIMIT:
+            return 10
+    if name == 'griddefault' and grid_default_factor(ledger) is None:
+        return 11
+    if transmission_loss(ledger, source) is None:
+        return 12
+    return OK
+
+
+def source_figure(ledger: Ledger, source: Source) -> Figure:
+    # "U is E × (10,000 + T) ÷ 10,000"
+    # "The source figure in grams is U × F ÷ 1,000,000."
+    up = rounds_up(source.side)
+    E = source.energy
+    T = transmission_loss(ledger, source)
+    U = rounded(Fraction(E * (10_000 + T), 10_000), up)
+    option, F = emission_factor(ledger, source)
+    return Figure(E, T, U, option, F, rounded(Fraction(U * F, 1_000_000), up))
+
+
+def numbers_of(ledger: Ledger, side: str) -> list[int]:
+    """The numbers of the standing sources of a side, rising."""
+    return [n for n in sorted(ledger.sources) if ledger.sources[n].side == side]
+
+
+def report(ledger: Ledger) -> Report | Refused:
+    # "for each source, by rising number": 8 to 12; "After all sources, 13 a side
+    # above 1,000,000,000,000,000 grams."
+    figures = {}
+    for number in sorted(ledger.sources):
+        refusal = figure_refused(ledger, ledger.sources[number])
+        if refusal is not OK:
+            return Refused(refusal, number)
+        figures[number] = source_figure(ledger, ledger.sources[number])
+    sides = {side: side_report(ledger, figures, side) for side in SIDES}
+    if any(side.grams > 1_000_000_000_000_000 for side in sides.values()):
+        return Refused(13)
+    # "baseline less project less leakage tonnes, signed"
+    reduction = (sides['baseline'].tonnes - sides['project'].tonnes
+                 - sides['leakage'].tonnes)
+    return Report(figures, sides, reduction)
+
+
+def side_report(ledger: Ledger, figures: dict, side: str) -> SideReport:
+    # "its grams (sum of source figures), its tonnes (grams ÷ 1,000,000, rounded as
+    # the side) and its number of standing sources"
+    numbers = numbers_of(ledger, side)
+    grams = sum(figures[number].grams for number in numbers)
+    tonnes = rounded(Fraction(grams, 1_000_000), rounds_up(side))
+    return SideReport(tonnes, grams, len(numbers))
+
+
+# 7. Exact values, and how near the report is to them
+
+
+def exact_factor(ledger: Ledger, source: Source, figure: Figure) -> Fraction:
+    """F with unrounded quotients, of the option that the rounded factors chose."""
+    if figure.option != 'captive':
+        return Fraction(figure.factor)  # entered or fixed, so exact as it is
+    milligrams = sum(exact_fuel_milligrams(*line)
+                     for plant in plants_at(ledger, source.supply.site)
+                     for line in plant.fuel_lines)
+    return milligrams / generation_at(ledger, source.supply.site)
+
+
+def exact_figure(ledger: Ledger, source: Source, figure: Figure) -> Fraction:
+    # "its figure with e for E, unrounded quotients and the same chosen options";
+    # below zero where e is
+    with_losses = exact_energy(source.meters) * Fraction(10_000 + figure.loss, 10_000)
+    return with_losses * exact_factor(ledger, source, figure) / 1_000_000
+
+
+def exact_side(ledger: Ledger, given: Report, side: str) -> Fraction:
+    # "the sum of the exact figures of its standing sources ÷ 1,000,000, in tonnes,
+    # and 0 where none stands"
+    return sum((exact_figure(ledger, ledger.sources[n], given.figures[n])
+                for n in numbers_of(ledger, side)), Fraction(0)) / 1_000_000
+
+
+def exact_reduction(ledger: Ledger, given: Report) -> Fraction:
+    # "the exact baseline less project less leakage value"
+    return (exact_side(ledger, given, 'baseline')
+            - exact_side(ledger, given, 'project')
+            - exact_side(ledger, given, 'leakage'))
+
+
+def excess(side: str, value: int, exact: Fraction) -> Fraction:
+    """How far a value is off towards its safe side; below zero if unsafe."""
+    return value - exact if rounds_up(side) else exact - value
+
+
+def gap(ledger: Ledger, given: Report, number: int) -> Fraction:
+    """The "grams between the two"; below zero if on the unsafe side."""
+    source, figure = ledger.sources[number], given.figures[number]
+    return excess(source.side, figure.grams, exact_figure(ledger, source, figure))
+
+
+def gap_limit(figure: Figure, factor_multiple: int = 13,
+              energy_multiple: int = 11) -> Fraction:
+    # "1 + (13 × (F + 2) + 11 × U ÷ 10) ÷ 1,000,000 grams"
+    milligrams = (factor_multiple * (figure.factor + 2)
+                  + Fraction(energy_multiple * figure.energy_with_losses, 10))
+    return 1 + milligrams / 1_000_000
+
+
+class Inequality(NamedTuple):
+    """On the safe side, which is off from 0, and off by less than the limit."""
+
+    what: str
+    off: Fraction
+    limit: Fraction
+
+    @property
+    def holds(self) -> bool:
+        return 0 <= self.off < self.limit
+
+
+def demand_3(ledger: Ledger, report: Report, *, factor_multiple: int = 13,
+             energy_multiple: int = 11, gap_kilograms: int = 200, side_tonnes: int = 1,
+             reduction_tonnes: int = 3, allowance_kilograms: int = 200) -> list[Inequality]:
+    """Each inequality of demand 3 at a report given on what stands."""
+    allowance = Fraction(allowance_kilograms, 1_000)  # tonnes a standing source
+    inequalities = []
+    for number, figure in report.figures.items():
+        off = gap(ledger, report, number)
+        limit = gap_limit(figure, factor_multiple, energy_multiple)
+        inequalities.append(Inequality(f'gap {number} by F and U, g', off, limit))
+        weight = Fraction(gap_kilograms * 1_000)
+        inequalities.append(Inequality(f'gap {number} by weight, g', off, weight))
+    for side in SIDES:
+        off = excess(side, report.sides[side].tonnes, exact_side(ledger, report, side))
+        limit = side_tonnes + allowance * len(numbers_of(ledger, side))
+        inequalities.append(Inequality(f'{side}, t', off, limit))
+    off = exact_reduction(ledger, report) - report.reduction
+    limit = reduction_tonnes + allowance * len(ledger.sources)
+    return inequalities + [Inequality('reduction, t', off, limit)]
+
+
+def check_demand_3(ledger: Ledger, report: Report, **constants: int):
+    """Raises AssertionError where an inequality fails; `constants` as in demand_3."""
+    for what, off, limit in demand_3(ledger, report, **constants):
+        if off < 0:
+            raise AssertionError(f'{what}: on the unsafe side by {float(-off)}')
+        if off >= limit:
+            raise AssertionError(f'{what}: off by {float(off)}, limit {float(limit)}')
+    for side in SIDES:
+        if report.sides[side].sources != len(numbers_of(ledger, side)):
+            raise AssertionError(f'{side}: {report.sides[side].sources} sources reported')
+
+
+# 8. The text
+
+INPUT_LIMIT = 65_536
+LINE_LIMIT = 256
+
+# 14: "a decimal of more than 18 digits or with a zero before its other digits"
+NUMBER = rb'(?:0|[1-9][0-9]{0,17})'
+# "a register is 8 lower-case hexadecimal digits, highest first"
+REGISTER = rb'[0-9a-f]{8}'
+
+
+def form(text: bytes) -> re.Pattern:
+    return re.compile(text.replace(b'<number>', NUMBER).replace(b'<register>', REGISTER))
+
+
+GRID_FORM = form(rb'\(grid (<number>) (thermal|hydro)\)')
+# "Any count of fuel lines or meters, none included, is a form; the entry judges it."
+PLANT_FORM = form(rb'\(plant (<number>) (<number>) (<number>)'
+                  rb'((?: \(fuel <number> <number> <number>\))*)\)')
+SOURCE_FORM = form(rb'\(source (<number>) (project|leakage|baseline)'
+                   rb' \((combined|griddefault|captive <number>|captivedefault|either <number>)\)'
+                   rb' \((loss <number>|default20|default3|none)\)'
+                   rb'((?: \((?:whole [+-] <number> <number>'
+                   rb'|single [+-] <register> <register>)\))*)\)')
+DROP_FORM = form(rb'\(drop (source|plant) (<number>)\)')
+REPORT_FORM = form(rb'\(report\)')
+
+# These take a form apart that one of the patterns above has already passed.
+FUEL_PARTS = re.compile(rb'\(fuel ([0-9]+) ([0-9]+) ([0-9]+)\)')
+METER_PARTS = re.compile(rb'\((whole|single) ([+-]) ([0-9a-f]+) ([0-9a-f]+)\)')
+
+
+def read_named(part: bytes) -> tuple:
+    """A supply or a loss: its name, and its number if it carries one."""
+    name, *number = part.split(b' ')
+    return (name.decode(), *map(int, number))
+
+
+def read_meter(kind: bytes, sign: bytes, first: bytes, last: bytes) -> Meter:
+    base = 10 if kind == b'whole' else 16
+    return Meter(kind.decode(), sign.decode(), int(first, base), int(last, base))
+
+
+def grid_call(ledger: Ledger, parts: re.Match):
+    return ledger.enter_grid(int(parts[1]), parts[2].decode())
+
+
+def plant_call(ledger: Ledger, parts: re.Match):
+    lines = [FuelLine(*map(int, line)) for line in FUEL_PARTS.findall(parts[4])]
+    return ledger.enter_plant(int(parts[1]), Plant(int(parts[2]), int(parts[3]), lines))
+
+
+def source_call(ledger: Ledger, parts: re.Match):
+    meters = [read_meter(*meter) for meter in METER_PARTS.findall(parts[5])]
+    source = Source(parts[2].decode(), Supply(*read_named(parts[3])),
+                    Loss(*read_named(parts[4])), meters)
+    return ledger.enter_source(int(parts[1]), source)
+
+
+def drop_call(ledger: Ledger, parts: re.Match):
+    if parts[1] == b'source':
+        return ledger.drop_source(int(parts[2]))
+    return ledger.drop_plant(int(parts[2]))
+
+
+def report_call(ledger: Ledger, parts: re.Match):
+    return report(ledger)
+
+
+CALLS = ((GRID_FORM, grid_call), (PLANT_FORM, plant_call), (SOURCE_FORM, source_call),
+         (DROP_FORM, drop_call), (REPORT_FORM, report_call))
+
+
+def perform(ledger: Ledger, line: bytes) -> None | int | Refused | Report:
+    """The answer to one line, given without its LF."""
+    if len(line) > LINE_LIMIT:
+        return 14
+    for pattern, call in CALLS:
+        parts = pattern.fullmatch(line)
+        if parts:
+            return call(ledger, parts)
+    return 14
+
+
+def answer_text(answer: None | int | Refused | Report) -> str:
+    # "Each line prints `ok`, `refused N`, or for a report `refused N source K` (no
+    # source part with 13) or four lines: side, tonnes, grams, sources; then reduction."
+    if answer is OK:
+        return 'ok\n'
+    if isinstance(answer, int):
+        return f'refused {answer}\n'
+    if isinstance(answer, Refused):
+        source = '' if answer.source is None else f' source {answer.source}'
+        return f'refused {answer.number}{source}\n'
+    sides = ''.join(f'{side} {s.tonnes} {s.grams} {s.sources}\n'
+                    for side, s in answer.sides.items())
+    return f'{sides}reduction {answer.reduction}\n'
+
+
+def lines_of(data: bytes) -> list[bytes]:
+    # "lines ended by LF (the last may lack it)"
+    if not data:
+        return []
+    return data.removesuffix(b'\n').split(b'\n')
+
+
+def tally(data: bytes, on_report=None) -> bytes:
+    """The whole output. `on_report(ledger, report)` sees each report given."""
+    if len(data) > INPUT_LIMIT:
+        return b'refused 14\n'
+    ledger = Ledger()
+    output = []
+    for line in lines_of(data):
+        answer = perform(ledger, line)
+        if on_report and isinstance(answer, Report):
+            on_report(ledger, answer)
+        output.append(answer_text(answer))
+    return ''.join(output).encode()
+
+
+# 9. The program
+
+if __name__ == '__main__':
+    sys.stdout.buffer.write(tally(sys.stdin.buffer.read()))

@@ -1,0 +1,391 @@
+"""The vectors that the test programs run, with the answers of the reference.
+
+    vectors.py          writes stdin and stdout of each crate of vectors
+    vectors.py --check  compares those files with what it would write
+
+A vector is a line of stdin and a line of stdout. Its fields are numbers of 64
+bits, each written as 16 hexadecimal digits, as the crate `vectors` reads them.
+"""
+
+import random
+import struct
+import sys
+from fractions import Fraction
+from itertools import permutations, product
+from pathlib import Path
+from typing import NamedTuple
+
+from counterexamples import register_above
+import reference
+from reference import Meter
+
+CRATES = Path(__file__).resolve().parent.parent / 'crates'
+
+LAST_U32 = 2**32 - 1
+LAST_U64 = 2**64 - 1
+
+
+class Vector(NamedTuple):
+    fields: tuple[int, ...]
+    answer: str
+
+
+class Numbers:
+    """Random numbers that are the same in every version of Python, of which only
+    `random()` is promised to be."""
+
+    def __init__(self, seed: int):
+        self.random = random.Random(seed).random
+
+    def below(self, limit: int) -> int:
+        high, low = int(self.random() * 2**32), int(self.random() * 2**32)
+        return (high << 32 | low) % limit
+
+    def of_any_size(self, limit: int) -> int:
+        return self.below(limit) >> self.below(limit.bit_length())
+
+    def pick(self, items):
+        return items[self.below(len(items))]
+
+
+def in_both_directions(cases) -> list[tuple]:
+    """Each case after a direction: 0 is up, 1 down."""
+    return [(direction, *case) for case in cases for direction in (0, 1)]
+
+
+# 1. Rounding: operation, a, b, d
+
+DIVIDE, MULTIPLY_DIVIDE = 0, 2  # up; one more is down
+
+
+def quotient_answer(operation: int, a: int, b: int, d: int) -> str:
+    if d == 0:  # by 0 the crate answers 0
+        return '0'
+    exact = Fraction(a if operation < MULTIPLY_DIVIDE else a * b, d)
+    quotient = reference.rounded(exact, up=operation % 2 == 0)
+    return str(quotient) if quotient <= LAST_U64 else 'too large'
+
+
+def divisions(numbers: Numbers) -> list[tuple[int, int, int]]:
+    edges = (0, 1, 2, 2**32, LAST_U64 - 1, LAST_U64)
+    cases = [(a, 0, d) for a, d in product(edges, edges)]
+    for _ in range(12):  # exact, and just off
+        d = 2 + numbers.of_any_size(2**32)
+        exact = numbers.below(2**64 // d) * d
+        cases += [(a, 0, d) for a in (max(exact, 1) - 1, exact, exact + 1)]
+    return cases + [(numbers.below(2**64), 0, numbers.of_any_size(2**64)) for _ in range(12)]
+
+
+def products(numbers: Numbers) -> list[tuple[int, int, int]]:
+    cases = list(product((0, 1, LAST_U64), (0, 1, 2, LAST_U32), (0, 1, 2, LAST_U32)))
+    # Quotients of 2^64 - 1, then 2^64 - 1/2, then 2^64, all exact.
+    cases += [(LAST_U64 // 3, 3, 1), (LAST_U64 // 3 * 2, 3, 2), ((2**65 - 1) // 31, 31, 2),
+              (2**63, 2, 1), (2**62 * 3, 4, 3)]
+    # Little more than 1, so that the quotients of neighbouring a lie little more than 1 apart.
+    ratios = [(LAST_U32, LAST_U32), (LAST_U32, LAST_U32 - 1), (3, 2), (10_001, 10_000)]
+    ratios += [(d + numbers.of_any_size(d), d)
+               for d in (2 + numbers.below(2**31 - 2) for _ in range(10))]
+    for b, d in ratios:
+        highest = min(2**64 * d // b, LAST_U64)
+        cases += [(a, b, d) for a in range(highest - 2, min(highest + 1, LAST_U64) + 1)]
+    cases += [(2**64 * d // b + off, b, d) for b, d in ((LAST_U32, 1), (1_300_000, 10_000))
+              for off in (-1, 0, 1)]
+    return cases + [(numbers.of_any_size(2**64), numbers.of_any_size(2**32),
+                     1 + numbers.of_any_size(LAST_U32)) for _ in range(30)]
+
+
+def rounding_vectors() -> list[Vector]:
+    numbers = Numbers(1)
+    cases = [(operation + direction, *case)
+             for operation, group in ((DIVIDE, divisions(numbers)),
+                                      (MULTIPLY_DIVIDE, products(numbers)))
+             for direction, *case in in_both_directions(group)]
+    return [Vector(case, quotient_answer(*case)) for case in cases]
+
+
+# 2. Fuel lines: direction, Q, V, C
+
+FUEL_LIMITS = (100_000_000, 150_000, 200_000)
+
+
+def fuel_answer(direction: int, Q: int, V: int, C: int) -> str:
+    if reference.fuel_refused(reference.FuelLine(Q, V, C)):
+        return 'refused 2'
+    return str(reference.fuel_milligrams(Q, V, C, up=direction == 0))
+
+
+def fuel_lines(numbers: Numbers) -> list[tuple[int, int, int]]:
+    bench = (1_000, 43_000, 74_100)
+    lines = [bench]
+    for at, limit in enumerate(FUEL_LIMITS):  # one figure at its edges, beside two of the bench
+        for value in (0, 1, 2, limit - 1, limit, limit + 1, 2**31, LAST_U32):
+            lines.append((*bench[:at], value, *bench[at + 1:]))
+    lines += product(*((0, 1, limit, limit + 1) for limit in FUEL_LIMITS))
+    lines += product(*((limit, LAST_U32) for limit in FUEL_LIMITS))
+    lines += [(1, 1, C) for C in (499, 500, 501, 999, 1_000, 1_001, 1_999, 2_000, 2_001)]
+    lines += [tuple(numbers.of_any_size(limit) + 1 for limit in FUEL_LIMITS) for _ in range(90)]
+    return lines + [tuple(numbers.of_any_size(2**32) for _ in FUEL_LIMITS) for _ in range(20)]
+
+
+def fuel_vectors() -> list[Vector]:
+    cases = in_both_directions(fuel_lines(Numbers(2)))
+    return [Vector(case, fuel_answer(*case)) for case in cases]
+
+
+# 3. Readings: kind, and a count of watt-hours or a register's bits
+
+KINDS = ('whole', 'single')
+LIMIT = reference.READING_LIMIT_WH
+LAST_REGISTER = 0x4CBEBC20  # 100,000,000 kWh
+SIGN_BIT = 0x80000000
+# (a) to (e) of the paper's bench table
+BENCH_REGISTERS = (0x3F800000, 0x42F6E979, 0x00000001, SIGN_BIT, LAST_REGISTER, LAST_REGISTER + 1)
+INFINITIES = (0x7F800000, 0xFF800000)
+NANS = (0x7F800001, 0x7FBFFFFF, 0x7FC00000, 0x7FFFFFFF, 0xFF800001, 0xFFC00000, 0xFFFFFFFF)
+
+
+def reading_answer(kind: int, value: int) -> str:
+    down, up = (reference.reading_watt_hours(KINDS[kind], value, up) for up in (False, True))
+    if isinstance(down, reference.Refused):
+        return f'refused {down.number}'
+    return f'{down} {up}'
+
+
+def register_of(kilowatt_hours: float) -> int:
+    return struct.unpack('>I', struct.pack('>f', kilowatt_hours))[0]
+
+
+def counts(numbers: Numbers) -> list[int]:
+    edges = [0, 1, 999, 1_000, LIMIT - 1, LIMIT, LIMIT + 1, LAST_U32, 2**32, 2**63, LAST_U64]
+    return (edges + [numbers.of_any_size(LIMIT + 1) for _ in range(40)]
+            + [LIMIT + 1 + numbers.of_any_size(2**63) for _ in range(20)])
+
+
+def patterns(numbers: Numbers) -> list[int]:
+    """Each sign and exponent with the least, the largest and some other fractions."""
+    values = []
+    for sign_and_exponent in range(512):
+        fractions = [0, 1, 0x7FFFFF, numbers.below(0x800000)]
+        if 117 <= sign_and_exponent <= 153:  # from about 1 Wh to the limit
+            fractions += [numbers.below(0x800000) for _ in range(10)]
+        values += [sign_and_exponent << 23 | fraction for fraction in fractions]
+    return values
+
+
+def near_whole(numbers: Numbers) -> list[int]:
+    """Registers of whole watt-hours, which are eighths of a kWh, and those next to
+    them; and the two registers round a count of watt-hours."""
+    eighths = [1, 2, 3, 7, 8] + [1 + numbers.of_any_size(2**24) for _ in range(40)]
+    exact = [register_of(n / 8) for n in eighths]
+    above = [register_above(numbers.of_any_size(LIMIT)) for _ in range(60)]
+    return ([register + off for register in exact for off in (-1, 0, 1)]
+            + [register + off for register in above for off in (-1, 0)])
+
+
+def reading_vectors() -> list[Vector]:
+    numbers = Numbers(3)
+    registers = [*BENCH_REGISTERS, LAST_REGISTER - 1, SIGN_BIT + LAST_REGISTER, *INFINITIES,
+                 *NANS, *patterns(numbers), *near_whole(numbers)]
+    registers += [LAST_REGISTER + 1 + numbers.of_any_size(0x7FFFFF) for _ in range(20)]
+    registers += [numbers.below(2**32) for _ in range(200)]
+    cases = [(0, value) for value in counts(numbers)] + [(1, value) for value in registers]
+    return [Vector(case, reading_answer(*case)) for case in cases]
+
+
+# 4. Sources: direction, number of meters, then the sign, kind, first and last of four meters
+
+SIGNS = ('+', '-')
+SIDES = ('project', 'baseline')
+
+REST = Meter('whole', '+', 0, 0)
+FRACTIONAL = 0x42F6E979  # between 123,456 and 123,457 Wh
+SMALLEST = 0x00000001
+ACCEPTED = (Meter('whole', '+', 0, 1_000), Meter('whole', '-', 0, 10),
+            Meter('single', '+', 0, FRACTIONAL), Meter('single', '-', 0, SMALLEST))
+# Refused 3: above the limit, below zero, infinite, not a number.
+UNREADABLE = (Meter('whole', '+', 0, LIMIT + 1), Meter('whole', '-', LAST_U64, 0),
+              Meter('single', '-', 0, LAST_REGISTER + 1),
+              Meter('single', '+', SIGN_BIT + 1, FRACTIONAL),
+              *(Meter('single', '+', 0, register) for register in INFINITIES),
+              *(Meter('single', '-', register, FRACTIONAL) for register in NANS[2:4]))
+# Refused 4. Neighbouring registers run back by less than a watt-hour, so they round alike.
+RUNNING_BACK = (Meter('whole', '+', 5, 4), Meter('whole', '-', LIMIT, 0),
+                Meter('single', '+', FRACTIONAL + 1, FRACTIONAL),
+                Meter('single', '-', SMALLEST + 1, SMALLEST),
+                Meter('single', '+', SMALLEST, SIGN_BIT))
+
+
+def whole(*moved: int) -> list[Meter]:
+    """Counts from 0, of + meters, or of - meters where below 0."""
+    return [Meter('whole', '+' if wh >= 0 else '-', 0, abs(wh)) for wh in moved]
+
+
+def single(sign: str, first: int, last: int) -> Meter:
+    return Meter('single', sign, first, last)
+
+
+def source_answer(direction: int, count: int, meters: list[Meter]) -> str:
+    entered = (meters + max(count - 4, 0) * [REST])[:count]
+    judged = reference.judge_meters(SIDES[direction], entered)
+    if isinstance(judged, int):
+        return f'refused {judged}'
+    adds, takes = judged
+    return 'refused 6' if reference.energy_refused(adds, takes) else str(adds - takes)
+
+
+def source_vector(direction: int, count: int, meters: list[Meter]) -> Vector:
+    """Meters at rest fill the places that are left."""
+    placed = (meters + 4 * [REST])[:4]
+    fields = [field for m in placed
+              for field in (SIGNS.index(m.sign), KINDS.index(m.kind), m.first, m.last)]
+    return Vector((direction, count, *fields), source_answer(direction, count, placed))
+
+
+def counted(meters: list[Meter]) -> tuple[int, list[Meter]]:
+    return len(meters), meters
+
+
+def meter_counts() -> list[tuple[int, list[Meter]]]:
+    """2 comes first, and a meter beyond the count is not read."""
+    refused = (RUNNING_BACK[0], *UNREADABLE[-3:])
+    cases = [(count, list(meters)) for meters in (ACCEPTED, refused)
+             for count in (0, 1, 2, 3, 4, 5, 6, 255)]
+    for bad in (*UNREADABLE, *RUNNING_BACK):
+        cases += [(count, [*ACCEPTED[:count], bad, *ACCEPTED[count:3]]) for count in (1, 2, 3)]
+    return cases
+
+
+def whole_sources() -> list[tuple[int, list[Meter]]]:
+    """E at 0, at the limit and one off, of counts."""
+    return [counted(whole(*moved)) for moved in (
+        (0,), (1,), (-1,), (LIMIT - 1,), (LIMIT,), (-LIMIT,), (5, -5), (5, -6), (-5, 5), (-6, 5),
+        (LIMIT, 1), (LIMIT, 1, -1), (LIMIT, 1, -2), (-1, LIMIT, 1), (LIMIT, -LIMIT),
+        (LIMIT, -LIMIT, -1), (LIMIT, LIMIT, -LIMIT), (LIMIT, LIMIT, -LIMIT + 1),
+        (LIMIT, LIMIT, LIMIT, LIMIT), (-LIMIT, -LIMIT, -LIMIT, -LIMIT),
+        (LIMIT, LIMIT, -LIMIT, -LIMIT))] + [
+        counted([Meter('whole', sign, first, last)]) for sign in SIGNS
+        for first, last in ((7, 7), (LIMIT, LIMIT), (LIMIT - 1, LIMIT), (1, LIMIT), (3, 1_000))]
+
+
+def single_sources() -> list[tuple[int, list[Meter]]]:
+    """Registers at rest, at zero of either sign and at the limit, beside counts
+    that bring E back to 0 or to the limit."""
+    unmoved = [single(sign, value, value) for sign in SIGNS for value in (FRACTIONAL, SMALLEST)]
+    cases = [[meter, *whole(*moved)] for meter in unmoved
+             for moved in ((), (0,), (1,), (-1,), (2,), (LIMIT,), (LIMIT - 1,))]
+    cases += [n * [meter] for meter in unmoved for n in (2, 3, 4)]
+    cases += [[*unmoved[:3], *whole(moved)] for moved in (2, 3, 4, -2, -3, -4)]
+    zeros = (0, SIGN_BIT)
+    cases += [[single(sign, first, last)] for sign in SIGNS for first in zeros
+              for last in (*zeros, SMALLEST, FRACTIONAL, LAST_REGISTER - 1, LAST_REGISTER)]
+    cases += [[single('+', first, LAST_REGISTER), *whole(*moved)]
+              for first in (SIGN_BIT, SMALLEST, FRACTIONAL, LAST_REGISTER - 1)
+              for moved in ((), (1,), (-1,), (123_456,), (123_457,))]
+    return [counted(meters) for meters in cases]
+
+
+def refused_sources(numbers: Numbers) -> list[tuple[int, list[Meter]]]:
+    """3 and 4 at each place, then both, in either order: 3 is tested over all
+    meters before 4."""
+    cases = [[*ACCEPTED[:at], bad, *ACCEPTED[at + 1:]]
+             for bad, at in product((*UNREADABLE, *RUNNING_BACK), range(4))]
+    for unreadable, (at, other) in product(UNREADABLE, permutations(range(4), 2)):
+        meters = list(ACCEPTED)
+        meters[at], meters[other] = unreadable, numbers.pick(RUNNING_BACK)
+        cases.append(meters)
+    return [counted(meters) for meters in cases]
+
+
+def random_register(numbers: Numbers) -> int:
+    """From a fraction of a watt-hour up, rarely over the limit."""
+    return (112 + numbers.below(41)) << 23 | numbers.below(0x800000)
+
+
+def random_meter(numbers: Numbers, kinds: tuple[str, ...]) -> Meter:
+    """A - meter moves little, so that E is mostly not below 0. Few run back."""
+    kind = numbers.pick(kinds)
+    sign = numbers.pick('++-')
+    last = random_register(numbers) if kind == 'single' else numbers.of_any_size(LIMIT)
+    moved = numbers.of_any_size(last + 1) if sign == '+' else numbers.below(min(last, 99) + 1)
+    first = last - numbers.pick((moved, moved, moved, 0, 1 if last else 0))
+    return Meter(kind, sign, *((last, first) if numbers.below(40) == 0 else (first, last)))
+
+
+def random_meters(numbers: Numbers, count: int) -> list[Meter]:
+    kinds = numbers.pick((('whole',), ('single',), KINDS))
+    return [random_meter(numbers, kinds) for _ in range(count)]
+
+
+def settled_sources(numbers: Numbers) -> list[tuple]:
+    """Random meters and a count that brings E to 0, to the limit or one beyond."""
+    cases = []
+    while len(cases) < 160:
+        meters = random_meters(numbers, 1 + numbers.below(3))
+        for direction, side in enumerate(SIDES):
+            judged = reference.judge_meters(side, meters)
+            if not isinstance(judged, int):
+                energy = judged[0] - judged[1]
+                cases += [(direction, *counted([*meters, *whole(target - energy)]))
+                          for target in (-1, 0, LIMIT, LIMIT + 1)]
+    return cases
+
+
+def source_vectors() -> list[Vector]:
+    numbers = Numbers(4)
+    cases = in_both_directions([
+        *meter_counts(), *whole_sources(), *single_sources(), *refused_sources(numbers)])
+    cases += settled_sources(numbers)
+    cases += in_both_directions(
+        counted(random_meters(numbers, 1 + numbers.below(4))) for _ in range(380))
+    return [source_vector(*case) for case in cases]
+
+
+# 5. The files
+
+VECTORS = {'rounding_vectors': rounding_vectors, 'fuel_vectors': fuel_vectors,
+           'reading_vectors': reading_vectors, 'source_vectors': source_vectors}
+
+
+def files_of(vectors: list[Vector]) -> dict[str, list[str]]:
+    """The lines of each file."""
+    return {'stdin': [' '.join(f'{field:016x}' for field in vector.fields) + '\n'
+                      for vector in vectors],
+            'stdout': [f'{vector.answer}\n' for vector in vectors]}
+
+
+def vectors_of(crate: str) -> list[Vector]:
+    """Each vector once."""
+    return list(dict.fromkeys(VECTORS[crate]()))
+
+
+def kept_lines(path: Path) -> list[str]:
+    return path.read_text().splitlines(keepends=True) if path.exists() else []
+
+
+def write():
+    for crate in VECTORS:
+        for name, lines in files_of(vectors_of(crate)).items():
+            (CRATES / crate / name).write_text(''.join(lines))
+
+
+def check() -> int:
+    passed = failed = 0
+    for crate in VECTORS:
+        lines = files_of(vectors_of(crate))
+        kept = {name: kept_lines(CRATES / crate / name) for name in lines}
+        differing = [name for name in lines if kept[name] != lines[name]]
+        for name in differing:
+            print(f'crates/{crate}/{name} differs')
+        expected = list(zip(*lines.values()))
+        matching = sum(a == b for a, b in zip(expected, zip(*kept.values())))
+        passed += matching
+        # With every vector in place, a file that differs goes on after the last.
+        failed += len(expected) - matching or bool(differing)
+    print(f'{passed} passed, {failed} failed')
+    return 1 if failed else 0
+
+
+if __name__ == '__main__':
+    if sys.argv[1:] == ['--check']:
+        sys.exit(check())
+    write()
