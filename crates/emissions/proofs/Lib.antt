@@ -1,0 +1,4 @@
+pub mod Outcomes
+pub mod Factors
+pub mod Losses
+pub mod Figures

@@ -1,0 +1,4 @@
+pub mod Outcome
+pub mod Factor
+pub mod Loss
+pub mod Figure

@@ -1,0 +1,271 @@
+-- Demand 3, for every list of calls: the ledger's records always show what stands, so each answer is the one that the rules fix for it, and
+-- each report given is safe. Assumes nothing.
+use Prim.Native.Nat.{ℕ, zero, suc, _+_, _<_, _≤_}
+use mathlib.Core.Path.{_≡_, refl, sym, ap, subst, fun-ext, _∙_}
+use mathlib.Core.Bool.{Bool, true, false, cond, _&&_}
+use mathlib.Core.List.{List, [], _∷_}
+use mathlib.Core.Option.{Option, none, some}
+use native.Mathlib.Omega.{arith}
+use lib.Dec.{eqb}
+use lib.ListN.{length, getD, set, replicate, take, length-set}
+use lib.Seq.{getD-set-same, getD-set-other}
+use borrow.Author.Tests.{eqb-true, eqb-false, le-leb}
+use Rattle.rounding.specs.Calls.{afterCalls, answers, Held}
+use Rattle.rounding.proofs.Calls.{calls-held, calls-agree, held-at}
+use Rattle.emissions.specs.Outcome.{Outcome, refused, given}
+use Rattle.emissions.specs.Factor.{factorLimit}
+use Rattle.emissions.specs.declared.GridEntry.{GridEntry}
+use Rattle.emissions.specs.declared.Grid.{Grid}
+use Rattle.emissions.specs.declared.Grid.the-variants.{Absent, Entered}
+use Rattle.emissions.proofs.Factors.{GridSound}
+use Rattle.ledger.specs.Judging.{gridJudged, plantJudged, sourceJudged, isThere, dropJudged, kept}
+use Rattle.ledger.specs.Report.{Books, Report, Reply, ok, refusedWith, reported, damaged, reportOf}
+use Rattle.ledger.specs.Standing.{Call, enterGrid, enterPlant, enterSource, dropPlant, dropSource, report, Standing, nothing, put, whereGiven, after, energyOf, keptOf, books, acknowledged, answer}
+use Rattle.ledger.specs.Operations.{noPlant, noSource, newLedger, plantIn, sourceIn, recorded, withPlant, withSource, step, gridIntact, plantIntact, sourceIntact, allIntact, intact, reply}
+use Rattle.ledger.specs.Claim.{ReportSafe, Claim, Demand3}
+use Rattle.ledger.specs.declared.Plant.{Plant}
+use Rattle.ledger.specs.declared.SourceEntry.{SourceEntry}
+use Rattle.ledger.specs.declared.Source.{Source}
+use Rattle.ledger.specs.declared.PlantRecord.{PlantRecord}
+use Rattle.ledger.specs.declared.SourceRecord.{SourceRecord}
+use Rattle.ledger.specs.declared.Ledger.{Ledger}
+use Rattle.ledger.proofs.Entries.{grid-facts, PlantFacts, plant-facts, SourceFacts, source-facts, drop-facts}
+use Rattle.ledger.proofs.Lists.{never-some}
+use Rattle.ledger.proofs.Figures.{Accepted, report-safe}
+
+-- The ledger shows what stands, and what stands was accepted.
+pub record Agree (l : Ledger) (s : Standing) : Type 0 where
+  pub plants : length (l .plants) ≡ 8
+  pub sources : length (l .sources) ≡ 32
+  pub same : recorded l ≡ books s
+  pub accepted : Accepted s
+
+-- ---- places
+
+-- One record written is one place put.
+set-place : {R A : Type 0} (read : R → Option A) (d : R) (l : List R) (n : ℕ) (x : R) (k : ℕ) → n < length l
+    → read (getD (set l n x) k d) ≡ put (λ j. read (getD l j d)) n (read x) k
+set-place {R} {A} read d l n x k h = go (eqb k n) refl
+  where
+    go : (t : Bool) → eqb k n ≡ t → read (getD (set l n x) k d) ≡ cond t (read x) (read (getD l k d))
+    go true e = ap read (ap (λ (j : ℕ). getD (set l n x) j d) (eqb-true k n e) ∙ getD-set-same l n x d h)
+    go false e = ap read (getD-set-other l n k x d (eqb-false k n e))
+
+-- What holds of each item holds after one is put, where it holds of that one.
+put-all : {A : Type 0} (P : ℕ → A → Type 0) (place : ℕ → Option A) (n : ℕ) (v : Option A) → ((a : A) → v ≡ some a → P n a)
+    → ((k : ℕ) (a : A) → place k ≡ some a → P k a) → (k : ℕ) (a : A) → put place n v k ≡ some a → P k a
+put-all {A} P place n v hv h k a e = go (eqb k n) refl e
+  where
+    go : (t : Bool) → eqb k n ≡ t → cond t v (place k) ≡ some a → P k a
+    go true q w = subst (λ (j : ℕ). P j a) (sym (eqb-true k n q)) (hv a w)
+    go false q w = h k a w
+
+kept-put : (place : ℕ → Option SourceEntry) (n : ℕ) (v : Option SourceEntry) (k : ℕ)
+    → keptOf (put place n v k) ≡ put (λ j. keptOf (place j)) n (keptOf v) k
+kept-put place n v k = go (eqb k n)
+  where
+    go : (t : Bool) → keptOf (cond t v (place k)) ≡ cond t (keptOf v) (keptOf (place k))
+    go true = refl
+    go false = refl
+
+-- ---- each call keeps the agreement
+
+module _ (l : Ledger) (s : Standing) (h : Agree l s) where
+  grid-entered : (g : GridEntry) → g .margin ≤ factorLimit
+      → Agree (record { grid = Entered g; plants = l .plants; sources = l .sources }) (record { grid = Entered g; plant = s .plant; source = s .source })
+  grid-entered g fits =
+      record {
+        plants = h .plants;
+        sources = h .sources;
+        same = ap (λ (b : Books). record { grid = Entered g; plant = b .plant; source = b .source }) (h .same);
+        accepted = record { grid = fits; plant = h .accepted .plant; source = h .accepted .source };
+      }
+
+  plant-put : (n : ℕ) (r : PlantRecord) → n ≤ 7 → ((p : Plant) → plantIn r ≡ some p → PlantFacts n p)
+      → Agree (withPlant l n r) (record { grid = s .grid; plant = put (s .plant) n (plantIn r); source = s .source })
+  plant-put n r small facts =
+      record {
+        plants = simp length-set (h .plants);
+        sources = h .sources;
+        same =
+            ap (λ (f : ℕ → Option Plant). record { grid = l .grid; plant = f; source = recorded l .source })
+            (fun-ext (λ k. set-place plantIn noPlant (l .plants) n r k (omega (arith, h .plants))))
+            ∙ ap (λ (b : Books). record { grid = b .grid; plant = put (b .plant) n (plantIn r); source = b .source }) (h .same);
+        accepted =
+            record {
+              grid = h .accepted .grid;
+              plant = put-all PlantFacts (s .plant) n (plantIn r) facts (h .accepted .plant);
+              source = h .accepted .source;
+            };
+      }
+
+  source-put : (n : ℕ) (r : SourceRecord) (v : Option SourceEntry) → n ≤ 31 → sourceIn r ≡ keptOf v → ((e : SourceEntry) → v ≡ some e → SourceFacts n e)
+      → Agree (withSource l n r) (record { grid = s .grid; plant = s .plant; source = put (s .source) n v })
+  source-put n r v small shows facts =
+      record {
+        plants = h .plants;
+        sources = simp length-set (h .sources);
+        same =
+            ap (λ (f : ℕ → Option Source). record { grid = l .grid; plant = recorded l .plant; source = f })
+            (fun-ext (λ k. set-place sourceIn noSource (l .sources) n r k (omega (arith, h .sources))))
+            ∙ ap (λ (b : Books). record { grid = b .grid; plant = b .plant; source = put (b .source) n (sourceIn r) }) (h .same)
+            ∙ ap (λ (o : Option Source). record { grid = s .grid; plant = s .plant; source = put (λ j. keptOf (s .source j)) n o }) shows
+            ∙ ap (λ (f : ℕ → Option Source). record { grid = s .grid; plant = s .plant; source = f }) (sym (fun-ext (kept-put (s .source) n v)));
+        accepted =
+            record {
+              grid = h .accepted .grid;
+              plant = h .accepted .plant;
+              source = put-all SourceFacts (s .source) n v facts (h .accepted .source);
+            };
+      }
+
+-- A drop finds the same in the records as in what stands.
+there : (o : Option SourceEntry) → isThere (keptOf o) ≡ isThere o
+there none = refl
+there (some e) = refl
+
+drop-same : (s : Standing) (n : ℕ) → dropJudged 31 (books s .source) n ≡ dropJudged 31 (s .source) n
+unfolding dropJudged
+drop-same s n = rw (there (s .source n))
+
+keeps : (l : Ledger) (s : Standing) (c : Call) → Agree l s → Agree (step l c) (after s c)
+unfolding step after noPlant noSource
+keeps l s (enterGrid g) h = go (gridJudged g) refl
+  where
+    go : (o : Outcome GridEntry) → gridJudged g ≡ o
+        → Agree (whereGiven o (λ a. record { grid = Entered a; plants = l .plants; sources = l .sources }) l)
+        (whereGiven o (λ a. record { grid = Entered g; plant = s .plant; source = s .source }) s)
+    go (refused k) e = h
+    go (given a) e =
+        let f = grid-facts g a e in
+        subst (λ (x : GridEntry). Agree (record { grid = Entered x; plants = l .plants; sources = l .sources }) (record { grid = Entered g; plant = s .plant; source = s .source }))
+        (sym (f .0)) (grid-entered l s h g (f .1))
+keeps l s (enterPlant n p) h = go (plantJudged n p) refl
+  where
+    go : (o : Outcome Plant) → plantJudged n p ≡ o
+        → Agree (whereGiven o (λ a. withPlant l n (record { stands = true; plant = a })) l)
+        (whereGiven o (λ a. record { grid = s .grid; plant = put (s .plant) n (some p); source = s .source }) s)
+    go (refused k) e = h
+    go (given a) e =
+        let f = plant-facts n p a e in
+        subst (λ (x : Plant). Agree (withPlant l n (record { stands = true; plant = x })) (record { grid = s .grid; plant = put (s .plant) n (some p); source = s .source }))
+        (sym (f .0))
+        (plant-put l s h n (record { stands = true; plant = p }) (f .1 .number)
+        (λ q w. let z : p ≡ q = cc in subst (PlantFacts n) z (f .1)))
+keeps l s (enterSource n e) h = go (sourceJudged n e) refl
+  where
+    go : (o : Outcome Source) → sourceJudged n e ≡ o
+        → Agree (whereGiven o (λ a. withSource l n (record { stands = true; source = a })) l)
+        (whereGiven o (λ a. record { grid = s .grid; plant = s .plant; source = put (s .source) n (some e) }) s)
+    go (refused k) q = h
+    go (given a) q =
+        let f = source-facts n e a q in
+        source-put l s h n (record { stands = true; source = a }) (some e) (f .1 .number) (ap some (f .0))
+        (λ d w. let z : e ≡ d = cc in subst (SourceFacts n) z (f .1))
+keeps l s (dropPlant n) h =
+    subst (λ (o : Outcome (Unit {0})). Agree (whereGiven o (λ a. withPlant l n noPlant) l) (after s (dropPlant n)))
+    (sym (ap (λ (b : Books). dropJudged 7 (b .plant) n) (h .same))) (go (dropJudged 7 (s .plant) n) refl)
+  where
+    go : (o : Outcome (Unit {0})) → dropJudged 7 (s .plant) n ≡ o
+        → Agree (whereGiven o (λ a. withPlant l n noPlant) l) (whereGiven o (λ a. record { grid = s .grid; plant = put (s .plant) n none; source = s .source }) s)
+    go (refused k) e = h
+    go (given u) e = plant-put l s h n noPlant (drop-facts 7 (s .plant) n u e) (λ p w. absurd (never-some w))
+keeps l s (dropSource n) h =
+    subst (λ (o : Outcome (Unit {0})). Agree (whereGiven o (λ a. withSource l n noSource) l) (after s (dropSource n)))
+    (sym (ap (λ (b : Books). dropJudged 31 (b .source) n) (h .same) ∙ drop-same s n)) (go (dropJudged 31 (s .source) n) refl)
+  where
+    go : (o : Outcome (Unit {0})) → dropJudged 31 (s .source) n ≡ o
+        → Agree (whereGiven o (λ a. withSource l n noSource) l) (whereGiven o (λ a. record { grid = s .grid; plant = s .plant; source = put (s .source) n none }) s)
+    go (refused k) e = h
+    go (given u) e = source-put l s h n noSource none (drop-facts 31 (s .source) n u e) refl (λ d w. absurd (never-some w))
+keeps l s report h = h
+
+-- ---- each answer is the one that the rules fix, and each report given is safe
+
+all-intact : {A : Type 0} (p : Option A → Bool) (place : ℕ → Option A) → ((n : ℕ) → p (place n) ≡ true) → (k : ℕ) → allIntact p place k ≡ true
+unfolding allIntact
+all-intact p place h zero = refl
+all-intact p place h (suc k) = simp (h k, all-intact p place h k)
+
+grid-intact : (g : Grid) → GridSound g → gridIntact g ≡ true
+grid-intact Absent h = refl
+grid-intact (Entered g) h = le-leb (g .margin) factorLimit h
+
+-- What stands was accepted, so that nothing of it is damaged.
+books-intact : (s : Standing) → Accepted s → intact (books s) ≡ true
+unfolding intact
+books-intact s h =
+    simp (
+      grid-intact (s .grid) (h .grid),
+      all-intact plantIntact (s .plant) (λ n. plant n (s .plant n) refl) 8,
+      all-intact sourceIntact (λ n. keptOf (s .source n)) (λ n. source n (s .source n) refl) 32,
+    )
+  where
+    plant : (n : ℕ) (o : Option Plant) → s .plant n ≡ o → plantIntact o ≡ true
+    plant n none e = refl
+    plant n (some p) e = h .plant n p e .intact
+
+    source : (n : ℕ) (o : Option SourceEntry) → s .source n ≡ o → sourceIntact (keptOf o) ≡ true
+    source n none e = refl
+    source n (some a) e = h .source n a e .intact
+
+never-reported : {A : Type 0} (o : Outcome A) (r : Report) → acknowledged o ≡ reported r → ⊥
+never-reported (refused n) r e = let z : _≡_ {A = ℕ} 0 1 = cc in omega arith
+never-reported (given a) r e = let z : _≡_ {A = ℕ} 0 1 = cc in omega arith
+
+module _ (l : Ledger) (s : Standing) (h : Agree l s) where
+  answered : (c : Call) → answer (recorded l) c ≡ answer (books s) c
+  answered c = ap (λ (b : Books). answer b c) (h .same)
+
+  report-answered : reply l report ≡ reportOf (books s)
+  unfolding reply
+  report-answered =
+      ap (λ (b : Books). cond (intact b) (reportOf b) damaged) (h .same)
+      ∙ ap (λ (t : Bool). cond t (reportOf (books s)) damaged) (books-intact s (h .accepted))
+
+good : (l : Ledger) (s : Standing) (c : Call) → Agree l s → Claim s c (reply l c)
+unfolding reply answer
+good l s (enterGrid g) h = record { answered = answered l s h (enterGrid g); safe = λ r e. absurd (never-reported (gridJudged g) r e) }
+good l s (enterPlant n p) h = record { answered = answered l s h (enterPlant n p); safe = λ r e. absurd (never-reported (plantJudged n p) r e) }
+good l s (enterSource n a) h = record { answered = answered l s h (enterSource n a); safe = λ r e. absurd (never-reported (sourceJudged n a) r e) }
+good l s (dropPlant n) h = record { answered = answered l s h (dropPlant n); safe = λ r e. absurd (never-reported (dropJudged 7 (recorded l .plant) n) r e) }
+good l s (dropSource n) h = record { answered = answered l s h (dropSource n); safe = λ r e. absurd (never-reported (dropJudged 31 (recorded l .source) n) r e) }
+good l s report h =
+    record { answered = report-answered l s h; safe = λ r e. report-safe s (h .accepted) r (sym (report-answered l s h) ∙ e) }
+
+-- ---- from a new ledger
+
+empty-places : {R A : Type 0} (read : R → Option A) (d : R) → read d ≡ none → (k n : ℕ) → read (getD (replicate k d) n d) ≡ none
+empty-places read d e zero n = e
+empty-places read d e (suc k) zero = e
+empty-places read d e (suc k) (suc n) = empty-places read d e k n
+
+start : Agree newLedger nothing
+unfolding newLedger noPlant noSource
+start =
+    record {
+      plants = refl;
+      sources = refl;
+      same =
+          ap (λ (f : ℕ → Option Plant). record { grid = Absent; plant = f; source = recorded newLedger .source }) (fun-ext (empty-places plantIn noPlant refl 8))
+          ∙ ap (λ (f : ℕ → Option Source). record { grid = Absent; plant = λ n. none; source = f }) (fun-ext (empty-places sourceIn noSource refl 32));
+      accepted =
+          record {
+            grid = tt;
+            plant = λ n p e. absurd (never-some e);
+            source = λ n a e. absurd (never-some e);
+          };
+    }
+
+-- Demand 3: for every list of calls from a new ledger.
+pub demand-3 : (calls : List Call) → Demand3 calls
+demand-3 calls = calls-held step reply after Claim Agree keeps good newLedger nothing start calls
+
+-- The claim at one place of the list, for what stands there.
+pub claim-at : (calls : List Call) (i : ℕ) → i < length calls → (c : Call) (a : Reply)
+    → Claim (afterCalls after nothing (take i calls)) (getD calls i c) (getD (answers step reply newLedger calls) i a)
+claim-at calls i b c a = held-at after Claim nothing calls (answers step reply newLedger calls) (demand-3 calls) i b c a
+
+-- The ledger that a list of calls leaves shows what stands then.
+pub records-show : (calls : List Call) → Agree (afterCalls step newLedger calls) (afterCalls after nothing calls)
+records-show calls = calls-agree step reply after Claim Agree keeps good newLedger nothing start calls

@@ -1,0 +1,261 @@
+-- Each standing source's figure stands on the safe side of its exact figure, and so do the sides and the reduction. Assumes nothing.
+use Prim.Native.Nat.{ℕ, _+_, _<_, _≤_, zero-le}
+use mathlib.Core.Path.{_≡_, refl, sym, ap, subst, _∙_}
+use mathlib.Core.Bool.{Bool, true, false, cond}
+use mathlib.Core.List.{List, [], _∷_, map}
+use mathlib.Core.Option.{Option, none, some}
+use native.Mathlib.Omega.{arith}
+use native.Mathlib.Nat.{mul-pos}
+use lib.Dec.{eqb}
+use lib.ListN.{length}
+use borrow.Author.Tests.{eqb-true}
+use Rattle.rounding.specs.Divided.{divided, sum}
+use Rattle.rounding.specs.Ratio.{Ratio, _÷_, whole, _≤ᵣ_, _<ᵣ_, _+ᵣ_, _per_, sumᵣ, integer, Conservative}
+use Rattle.rounding.specs.declared.Direction.{Direction}
+use Rattle.rounding.proofs.Ratio.{All, Within, sum-over, conservative-within, conservative-distance}
+use Rattle.metering.specs.Reading.{limit}
+use Rattle.metering.specs.Energy.{exactEnergy}
+use Rattle.metering.proofs.Readings.{unit-above-zero}
+use Rattle.emissions.specs.Outcome.{Outcome, refused, given, andThen}
+use Rattle.emissions.specs.Factor.{direction, factorLimit, Choice, chosen, factorOf, exactFactorOf}
+use Rattle.emissions.specs.Loss.{lossOf}
+use Rattle.emissions.specs.Figure.{Figure, figureOf, energyWithLosses, gramsOf, exactGrams, gapLimit}
+use Rattle.emissions.specs.declared.Side.{Side}
+use Rattle.emissions.specs.declared.Side.the-variants.{Project, Leakage, Baseline}
+use Rattle.emissions.proofs.Outcomes.{then-given}
+use Rattle.emissions.proofs.Factors.{GridSound, FactorSound, chosen-sound}
+use Rattle.emissions.proofs.Losses.{loss-limit}
+use Rattle.emissions.proofs.Figures.{figure-conservative, figure-within-allowance, figure-over}
+use Rattle.ledger.specs.Judging.{metersOf, kept}
+use Rattle.ledger.specs.Report.{Books, Numbered, standing, sourcesOf, plantsOf, those, consumption, comparesFactor, comparesLoss, siteOf, sourceFigure, Figured, Figures, declined, figured, joined, withFigure, figuresFrom, sideIndex, ofSide, gramsIn, SideReport, sideReport, Report, reportFrom, Reply, refusedWith, refusedAt, reported, allFit, replyFrom, reportOf}
+use Rattle.ledger.specs.Standing.{Standing, energyOf, keptOf, books}
+use Rattle.ledger.specs.Exact.{exactEnergyOf, exactFigure, gap, listOf, figuresOf, exactSide, exactReduction, sideAllowance, reductionAllowance}
+use Rattle.ledger.specs.Claim.{SourceSafe, SideSafe, ReportSafe}
+use Rattle.ledger.specs.declared.Plant.{Plant}
+use Rattle.ledger.specs.declared.SourceEntry.{SourceEntry}
+use Rattle.ledger.specs.declared.Source.{Source}
+use Rattle.ledger.proofs.Entries.{PlantFacts, SourceFacts}
+use Rattle.ledger.proofs.Sites.{all-then, site-sound}
+use Rattle.ledger.proofs.Sides.{side-conservative, reduction-safe, reduction-near, reduction-over}
+use Rattle.ledger.proofs.Lists.{numbered, never-some, standing-all, standing-at, those-all}
+
+-- Everything that stands was accepted.
+pub record Accepted (s : Standing) : Type 0 where
+  pub grid : GridSound (s .grid)
+  pub plant : (n : ℕ) (p : Plant) → s .plant n ≡ some p → PlantFacts n p
+  pub source : (n : ℕ) (e : SourceEntry) → s .source n ≡ some e → SourceFacts n e
+
+-- A figure on the safe side of its exact figure.
+pub record FiguredSafe (s : Standing) (f : Figured) : Type 0 where
+  pub fraction : 0 < exactFigure s f .over
+  pub near : Conservative (direction (f .side)) (f .figure .grams) (exactFigure s f) (gapLimit (f .figure .factor) (f .figure .energy))
+  pub small : Conservative (direction (f .side)) (f .figure .grams) (exactFigure s f) (whole 200000)
+
+abbrev pub figuredAt : ℕ → SourceEntry → Figure → Figured
+figuredAt n e f = record { number = n; side = e .side; figure = f }
+
+energy-over : (e : SourceEntry) → 0 < exactEnergy (metersOf e) .over
+unfolding exactEnergy
+energy-over e = unit-above-zero
+
+-- ---- one source
+
+-- The figure by its option and its loss.
+module _ (s : Standing) (h : Accepted s) (n : ℕ) (e : SourceEntry) (at : s .source n ≡ some e) (c : Choice) (T : ℕ)
+    (hc : chosen (direction (e .side)) (s .grid) (siteOf (plantsOf (books s))) (consumption comparesFactor (sourcesOf (books s))) (e .supply) ≡ given c)
+    (hT : lossOf (direction (e .side)) (consumption comparesLoss (sourcesOf (books s))) (e .loss) ≡ given T) where
+  abbrev F : ℕ
+  F = factorOf (direction (e .side)) (s .grid) (siteOf (plantsOf (books s))) c
+
+  abbrev exactF : Ratio
+  exactF = exactFactorOf (s .grid) (siteOf (plantsOf (books s))) c
+
+  factor : FactorSound (direction (e .side)) F exactF
+  factor =
+      chosen-sound (direction (e .side)) (s .grid) (siteOf (plantsOf (books s))) (consumption comparesFactor (sourcesOf (books s))) (h .grid)
+      (site-sound (s .plant) (λ k p q. h .plant k p q .lines)) (e .supply) c hc
+
+  loss : T ≤ 5000
+  loss = loss-limit (direction (e .side)) (consumption comparesLoss (sourcesOf (books s))) (e .loss) T (h .source n e at .loss) hT
+
+  exact-is : exactFigure s (figuredAt n e (figureOf (direction (e .side)) (energyOf e) c T F)) ≡ exactGrams (exactEnergy (metersOf e)) T exactF
+  unfolding exactFigure figureOf
+  exact-is = ap (λ (o : Option SourceEntry). exactGrams (exactEnergyOf o) T exactF) at
+
+  option-safe : FiguredSafe s (figuredAt n e (figureOf (direction (e .side)) (energyOf e) c T F))
+  unfolding figureOf
+  option-safe =
+      let facts = h .source n e at in
+      let dir = direction (e .side) in
+      let x = exactEnergy (metersOf e) in
+      let back = sym exact-is in
+      let U = energyWithLosses dir (energyOf e) T in
+      let g = gramsOf dir U F in
+      record {
+        fraction = subst (λ (r : Ratio). 0 < r .over) back (figure-over x T exactF (energy-over e) (factor .over));
+        near = subst (λ (r : Ratio). Conservative dir g r (gapLimit F U)) back
+            (figure-conservative dir (energyOf e) T F x exactF (energy-over e) (factor .over) (factor .unsigned) loss (facts .near) (factor .near));
+        small = subst (λ (r : Ratio). Conservative dir g r (whole 200000)) back
+            (figure-within-allowance dir (energyOf e) T F x exactF (energy-over e) (factor .over) (factor .unsigned) loss (facts .near) (factor .near)
+            (facts .limit) (factor .limit));
+      }
+
+pub source-safe : (s : Standing) → Accepted s → (n : ℕ) (e : SourceEntry) → s .source n ≡ some e → (f : Figure)
+    → sourceFigure (books s) (kept e (energyOf e)) ≡ given f → FiguredSafe s (figuredAt n e f)
+unfolding sourceFigure
+source-safe s h n e at f q =
+    let a = then-given (chosen (direction (e .side)) (s .grid) (siteOf (plantsOf (books s))) (consumption comparesFactor (sourcesOf (books s))) (e .supply)) _ q in
+    let b = then-given (lossOf (direction (e .side)) (consumption comparesLoss (sourcesOf (books s))) (e .loss)) _ (a .2) in
+    let k = b .2 in
+    let z : figureOf (direction (e .side)) (energyOf e) (a .0) (b .0) (factorOf (direction (e .side)) (s .grid) (siteOf (plantsOf (books s))) (a .0)) ≡ f = cc in
+    subst (λ (g : Figure). FiguredSafe s (figuredAt n e g)) z (option-safe s h n e at (a .0) (b .0) (a .1) (b .1))
+
+-- ---- the list of figures
+
+-- A source of the books is that of a standing entry.
+abbrev Shown : Standing → Numbered Source → Type 0
+Shown s x = (e : SourceEntry) × (s .source (x .number) ≡ some e) × (x .item ≡ kept e (energyOf e))
+
+shown : (s : Standing) (n : ℕ) (a : Source) (o : Option SourceEntry) → s .source n ≡ o → keptOf o ≡ some a → Shown s (numbered n a)
+shown s n a none p q = absurd (never-some q)
+shown s n a (some e) p q = (e, p, cc)
+
+all-shown : (s : Standing) → All (Shown s) (sourcesOf (books s))
+all-shown s = standing-all (books s .source) (Shown s) (λ n a q. shown s n a (s .source n) refl q) 0 32
+
+-- The source has a figure.
+abbrev Counted : Standing → Numbered Source → Type 0
+Counted s x = (f : Figure) × (sourceFigure (books s) (x .item) ≡ given f)
+
+-- Where no source is refused, each has a figure, and every figure is safe.
+abbrev Whole : Standing → List (Numbered Source) → List Figured → Type 0
+Whole s xs fs = All (Counted s) xs × All (FiguredSafe s) fs
+
+never-figured : {n k : ℕ} {fs : List Figured} → declined n k ≡ figured fs → ⊥
+never-figured e = let z : _≡_ {A = ℕ} 0 1 = cc in omega arith
+
+figures-whole : (s : Standing) → Accepted s → (xs : List (Numbered Source)) → All (Shown s) xs → (fs : List Figured)
+    → figuresFrom (books s) xs ≡ figured fs → Whole s xs fs
+unfolding figuresFrom
+figures-whole s h [] k fs e = let z : [] ≡ fs = cc in (tt, subst (All (FiguredSafe s)) z tt)
+figures-whole s h (x ∷ xs) k fs e =
+    go (sourceFigure (books s) (x .item)) (figuresFrom (books s) xs) refl refl e (figures-whole s h xs (k .1))
+  where
+    safe : (f : Figure) → sourceFigure (books s) (x .item) ≡ given f → FiguredSafe s (record { number = x .number; side = x .item .side; figure = f })
+    safe f q =
+        let e = k .0 .0 in
+        subst (λ (a : Source). FiguredSafe s (record { number = x .number; side = a .side; figure = f })) (sym (k .0 .2))
+        (source-safe s h (x .number) e (k .0 .1) f (ap (sourceFigure (books s)) (sym (k .0 .2)) ∙ q))
+
+    go : (o : Outcome Figure) (r : Figures) → sourceFigure (books s) (x .item) ≡ o → figuresFrom (books s) xs ≡ r → withFigure x o r ≡ figured fs
+        → ((gs : List Figured) → figuresFrom (books s) xs ≡ figured gs → Whole s xs gs) → Whole s (x ∷ xs) fs
+    go (refused n) r p q w ih = absurd (never-figured w)
+    go (given f) (declined n j) p q w ih = absurd (never-figured w)
+    go (given f) (figured gs) p q w ih =
+        let z : record { number = x .number; side = x .item .side; figure = f } ∷ gs ≡ fs = cc in
+        (((f, p), ih gs q .0), subst (All (FiguredSafe s)) z (safe f p, ih gs q .1))
+
+-- ---- a side
+
+same-side : (a b : Side) → eqb (sideIndex a) (sideIndex b) ≡ true → direction a ≡ direction b
+same-side Project Project e = refl
+same-side Project Leakage e = refl
+same-side Project Baseline e = cc
+same-side Leakage Project e = refl
+same-side Leakage Leakage e = refl
+same-side Leakage Baseline e = cc
+same-side Baseline Project e = cc
+same-side Baseline Leakage e = cc
+same-side Baseline Baseline e = refl
+
+module _ (s : Standing) (side : Side) (fs : List Figured) (h : All (FiguredSafe s) fs) where
+  abbrev P : Figured → Type 0
+  P f = FiguredSafe s f × (eqb (sideIndex (f .side)) (sideIndex side) ≡ true)
+
+  in-side : All P (ofSide side fs)
+  unfolding ofSide
+  in-side = those-all (FiguredSafe s) (λ (f : Figured). eqb (sideIndex (f .side)) (sideIndex side)) fs h
+
+  side-over : 0 < sumᵣ (map (exactFigure s) (ofSide side fs)) .over
+  side-over = sum-over (exactFigure s) (ofSide side fs) (all-then {P = P} (λ f k. k .0 .fraction) (ofSide side fs) in-side)
+
+  side-near : All (λ (f : Figured). Within (direction side) (gramsIn f) (exactFigure s f) (whole 200000)) (ofSide side fs)
+  side-near =
+      all-then {P = P} (λ f k. subst (λ (dir : Direction). Within dir (gramsIn f) (exactFigure s f) (whole 200000)) (same-side (f .side) side (k .1))
+      (conservative-within (direction (f .side)) (gramsIn f) (exactFigure s f) (whole 200000) (k .0 .small))) (ofSide side fs) in-side
+
+  pub side-safe : figuresOf s ≡ fs → SideSafe s side (sideReport side fs)
+  unfolding exactSide sideReport
+  side-safe e =
+      let dir = direction side in
+      let t = divided dir (sum (map gramsIn (ofSide side fs))) 1000000 in
+      record {
+        fraction = subst (λ (gs : List Figured). 0 < (sumᵣ (map (exactFigure s) (ofSide side gs)) per 1000000) .over) (sym e)
+            (mul-pos side-over (omega arith));
+        safe = subst (λ (gs : List Figured). Conservative dir t (sumᵣ (map (exactFigure s) (ofSide side gs)) per 1000000) (sideAllowance (length (ofSide side fs))))
+            (sym e) (side-conservative dir gramsIn (exactFigure s) (ofSide side fs) side-near side-over);
+      }
+
+-- ---- the whole report
+
+module _ (s : Standing) (h : Accepted s) (fs : List Figured) (e : figuresFrom (books s) (sourcesOf (books s)) ≡ figured fs) where
+  all-safe : Whole s (sourcesOf (books s)) fs
+  all-safe = figures-whole s h (sourcesOf (books s)) (all-shown s) fs e
+
+  each-side : (side : Side) → SideSafe s side (sideReport side fs)
+  each-side side = side-safe s side fs (all-safe .1) (ap listOf e)
+
+  each-source : (n : ℕ) (a : SourceEntry) → s .source n ≡ some a → (f : Figure) × SourceSafe s n a f
+  unfolding gap
+  each-source n a at =
+      let c = standing-at (books s .source) (Counted s) 0 32 (all-safe .0) n (kept a (energyOf a)) (ap keptOf at) zero-le
+      (omega (arith, h .source n a at .number)) in
+      let k = source-safe s h n a at (c .0) (c .1) in
+      let x = figuredAt n a (c .0) in
+      let dir = direction (a .side) in (
+        c .0,
+        record {
+          counted = c .1;
+          fraction = k .fraction;
+          safe = k .near;
+          gapBelow = conservative-distance dir (c .0 .grams) (exactFigure s x) (gapLimit (c .0 .factor) (c .0 .energy)) (k .near);
+          gapSmall = conservative-distance dir (c .0 .grams) (exactFigure s x) (whole 200000) (k .small);
+        },
+      )
+
+  figures-safe : ReportSafe s (reportFrom fs)
+  unfolding reportFrom exactReduction
+  figures-safe =
+      let b = each-side Baseline in
+      let p = each-side Project in
+      let l = each-side Leakage in
+      record {
+        sources = each-source;
+        project = p;
+        leakage = l;
+        baseline = b;
+        fraction = reduction-over (exactSide s Baseline) (exactSide s Project) (exactSide s Leakage) (b .fraction) (p .fraction) (l .fraction);
+        reductionSafe = reduction-safe _ _ _ _ _ _ (exactSide s Baseline) (exactSide s Project) (exactSide s Leakage)
+            (b .fraction) (p .fraction) (l .fraction) (b .safe) (p .safe) (l .safe);
+        reductionNear = reduction-near _ _ _ _ _ _ (exactSide s Baseline) (exactSide s Project) (exactSide s Leakage)
+            (b .fraction) (p .fraction) (l .fraction) (b .safe) (p .safe) (l .safe);
+      }
+
+-- A report that is given is safe.
+pub report-safe : (s : Standing) → Accepted s → (r : Report) → reportOf (books s) ≡ reported r → ReportSafe s r
+unfolding reportOf
+report-safe s h r q = go (figuresFrom (books s) (sourcesOf (books s))) refl q
+  where
+    never-at : {n k : ℕ} → refusedAt n k ≡ reported r → ⊥
+    never-at e = let z : _≡_ {A = ℕ} 0 1 = cc in omega arith
+
+    never-with : {n : ℕ} → refusedWith n ≡ reported r → ⊥
+    never-with e = let z : _≡_ {A = ℕ} 0 1 = cc in omega arith
+
+    fitted : (t : Bool) (r′ : Report) → cond t (reported r′) (refusedWith 13) ≡ reported r → r′ ≡ r
+    fitted true r′ e = cc
+    fitted false r′ e = absurd (never-with e)
+
+    go : (x : Figures) → figuresFrom (books s) (sourcesOf (books s)) ≡ x → replyFrom x ≡ reported r → ReportSafe s r
+    go (declined n k) e w = absurd (never-at w)
+    go (figured fs) e w = subst (ReportSafe s) (fitted (allFit (reportFrom fs)) (reportFrom fs) w) (figures-safe s h fs e)

@@ -1,0 +1,6 @@
+pub mod Entries
+pub mod Sites
+pub mod Lists
+pub mod Sides
+pub mod Figures
+pub mod Demand3

@@ -1,0 +1,52 @@
+-- Demand 3: what is claimed of each answer to a call, where s stands; and of a whole list of calls.
+use Prim.Native.Nat.{ℕ, _+_, _<_}
+use mathlib.Core.Path.{_≡_}
+use mathlib.Core.List.{List}
+use mathlib.Core.Option.{Option, some}
+use Rattle.rounding.specs.Ratio.{Ratio, whole, integer, _≤ᵣ_, _<ᵣ_, _+ᵣ_, Conservative}
+use Rattle.rounding.specs.Calls.{answers, Held}
+use Rattle.emissions.specs.Outcome.{Outcome, given}
+use Rattle.emissions.specs.Factor.{direction}
+use Rattle.emissions.specs.Figure.{Figure, gapLimit}
+use Rattle.emissions.specs.declared.Side.{Side}
+use Rattle.emissions.specs.declared.Side.the-variants.{Project, Leakage, Baseline}
+use Rattle.ledger.specs.Judging.{kept}
+use Rattle.ledger.specs.Report.{Books, Figured, SideReport, Report, Reply, reported, sourceFigure}
+use Rattle.ledger.specs.Standing.{Call, Standing, nothing, after, energyOf, books, answer}
+use Rattle.ledger.specs.Exact.{exactFigure, gap, exactSide, exactReduction, sideAllowance, reductionAllowance}
+use Rattle.ledger.specs.Operations.{newLedger, step, reply}
+use Rattle.ledger.specs.declared.SourceEntry.{SourceEntry}
+
+-- The source that stands under the number n with the entry e: it has a figure, on the safe side of its exact figure, with its gap below
+-- 1 + (13 × (F + 2) + 11 × U ÷ 10) ÷ 1,000,000 grams, "hence below 200 kilograms".
+pub record SourceSafe (s : Standing) (n : ℕ) (e : SourceEntry) (f : Figure) : Type 0 where
+  pub counted : sourceFigure (books s) (kept e (energyOf e)) ≡ given f
+  pub fraction : 0 < exactFigure s (record { number = n; side = e .side; figure = f }) .over
+  pub safe : Conservative (direction (e .side)) (f .grams) (exactFigure s (record { number = n; side = e .side; figure = f })) (gapLimit (f .factor) (f .energy))
+  pub gapBelow : gap s (record { number = n; side = e .side; figure = f }) <ᵣ gapLimit (f .factor) (f .energy)
+  pub gapSmall : gap s (record { number = n; side = e .side; figure = f }) <ᵣ whole 200000
+
+-- A side's tonnes stand on the safe side of its exact value, off by less than 1 tonne and 200 kilograms for each of its sources.
+pub record SideSafe (s : Standing) (side : Side) (r : SideReport) : Type 0 where
+  pub fraction : 0 < exactSide s side .over
+  pub safe : Conservative (direction side) (r .tonnes) (exactSide s side) (sideAllowance (r .sources))
+
+-- A report that is given stands on the safe side, source by source, side by side and in the reduction.
+pub record ReportSafe (s : Standing) (r : Report) : Type 0 where
+  pub sources : (n : ℕ) (e : SourceEntry) → s .source n ≡ some e → (f : Figure) × SourceSafe s n e f
+  pub project : SideSafe s Project (r .project)
+  pub leakage : SideSafe s Leakage (r .leakage)
+  pub baseline : SideSafe s Baseline (r .baseline)
+  pub fraction : 0 < exactReduction s .over
+  pub reductionSafe : integer (r .reduction) ≤ᵣ exactReduction s
+  pub reductionNear : exactReduction s
+      <ᵣ integer (r .reduction) +ᵣ reductionAllowance (r .project .sources + r .leakage .sources + r .baseline .sources)
+
+-- "each report answers exactly what document 01 fixes for what stands at it", and so does every other call.
+pub record Claim (s : Standing) (c : Call) (a : Reply) : Type 0 where
+  pub answered : a ≡ answer (books s) c
+  pub safe : (r : Report) → a ≡ reported r → ReportSafe s r
+
+-- "Demand 3 is one claim about the whole list, for every list": of the answers to a list of calls from a new ledger.
+abbrev pub Demand3 : List Call → Type 0
+Demand3 calls = Held after Claim nothing calls (answers step reply newLedger calls)

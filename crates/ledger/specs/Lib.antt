@@ -1,0 +1,6 @@
+pub mod Judging
+pub mod Report
+pub mod Standing
+pub mod Exact
+pub mod Operations
+pub mod Claim

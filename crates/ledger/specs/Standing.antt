@@ -1,0 +1,80 @@
+-- What stands after a list of calls, from the calls' arguments alone, and the answer to a call where that stands (document 01, "The ledger
+-- and its exact value", second paragraph).
+use Prim.Native.Nat.{ℕ, _-_}
+use mathlib.Core.Bool.{Bool, cond}
+use mathlib.Core.Option.{Option, none, some}
+use lib.Dec.{eqb}
+use Rattle.metering.specs.Energy.{roundedAdding, roundedTaking}
+use Rattle.emissions.specs.Outcome.{Outcome, refused, given}
+use Rattle.emissions.specs.Factor.{direction}
+use Rattle.emissions.specs.declared.GridEntry.{GridEntry}
+use Rattle.emissions.specs.declared.Grid.{Grid}
+use Rattle.emissions.specs.declared.Grid.the-variants.{Absent, Entered}
+use Rattle.ledger.specs.Judging.{gridJudged, plantJudged, sourceJudged, dropJudged, metersOf, kept}
+use Rattle.ledger.specs.Report.{Books, Reply, ok, refusedWith, reportOf}
+use Rattle.ledger.specs.declared.Plant.{Plant}
+use Rattle.ledger.specs.declared.SourceEntry.{SourceEntry}
+use Rattle.ledger.specs.declared.Source.{Source}
+
+-- "A list of calls holds grid entries, plant entries, source entries, drops of plants, drops of sources and reports .. with any arguments".
+pub data Call : Type 0 where
+  enterGrid : GridEntry → Call
+  enterPlant : ℕ → Plant → Call
+  enterSource : ℕ → SourceEntry → Call
+  dropPlant : ℕ → Call
+  dropSource : ℕ → Call
+  report : Call
+
+-- "plants and sources are numbered apart, and the grid has its one place".
+pub record Standing : Type 0 where
+  pub grid : Grid
+  pub plant : ℕ → Option Plant
+  pub source : ℕ → Option SourceEntry
+
+-- "At first nothing stands."
+abbrev pub nothing : Standing
+nothing = record { grid = Absent; plant = λ n. none; source = λ n. none }
+
+-- The place n with v in it; every other place as before.
+abbrev pub put : {A : Type 0} → (ℕ → Option A) → ℕ → Option A → ℕ → Option A
+put place n v k = cond (eqb k n) v (place k)
+
+-- "A refused call .. alters nothing."
+abbrev pub whereGiven : {A : Type 0} {S : Type 0} → Outcome A → (A → S) → S → S
+whereGiven (refused n) f s = s
+whereGiven (given a) f s = f a
+
+-- "An entry that its rules do not refuse then stands under its number among its own kind, in place of an older one there .. A drop that its
+-- rules do not refuse takes away what stands there. A refused call or a report alters nothing."
+unfoldable pub after : Standing → Call → Standing
+after s (enterGrid g) = whereGiven (gridJudged g) (λ a. record { grid = Entered g; plant = s .plant; source = s .source }) s
+after s (enterPlant n p) = whereGiven (plantJudged n p) (λ a. record { grid = s .grid; plant = put (s .plant) n (some p); source = s .source }) s
+after s (enterSource n e) = whereGiven (sourceJudged n e) (λ a. record { grid = s .grid; plant = s .plant; source = put (s .source) n (some e) }) s
+after s (dropPlant n) = whereGiven (dropJudged 7 (s .plant) n) (λ a. record { grid = s .grid; plant = put (s .plant) n none; source = s .source }) s
+after s (dropSource n) = whereGiven (dropJudged 31 (s .source) n) (λ a. record { grid = s .grid; plant = s .plant; source = put (s .source) n none }) s
+after s report = s
+
+-- E of an entry that stands: the signed sum of its rounded readings.
+unfoldable pub energyOf : SourceEntry → ℕ
+energyOf e = roundedAdding (direction (e .side)) (metersOf e) - roundedTaking (direction (e .side)) (metersOf e)
+
+abbrev pub keptOf : Option SourceEntry → Option Source
+keptOf none = none
+keptOf (some e) = some (kept e (energyOf e))
+
+-- What a report reads of what stands.
+abbrev pub books : Standing → Books
+books s = record { grid = s .grid; plant = s .plant; source = λ n. keptOf (s .source n) }
+
+-- The answer that the rules fix for each call.
+abbrev pub acknowledged : {A : Type 0} → Outcome A → Reply
+acknowledged (refused n) = refusedWith n
+acknowledged (given a) = ok
+
+unfoldable pub answer : Books → Call → Reply
+answer b (enterGrid g) = acknowledged (gridJudged g)
+answer b (enterPlant n p) = acknowledged (plantJudged n p)
+answer b (enterSource n e) = acknowledged (sourceJudged n e)
+answer b (dropPlant n) = acknowledged (dropJudged 7 (b .plant) n)
+answer b (dropSource n) = acknowledged (dropJudged 31 (b .source) n)
+answer b report = reportOf b
