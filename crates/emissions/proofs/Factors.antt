@@ -1,6 +1,6 @@
 -- A chosen factor stands on the safe side of the exact one, less than 1.1 mg/kWh off, and is at most 10,000,000. Assumes nothing.
-use Prim.Native.Nat.{ℕ, _+_, _*_, _<_, _≤_}
-use mathlib.Core.Path.{_≡_, refl, sym, ap, subst, _∙_}
+use Prim.Native.Nat.{ℕ, _<_, _≤_}
+use mathlib.Core.Path.{_≡_, refl, sym, subst}
 use mathlib.Core.Bool.{Bool, true, false, cond, _||_, true≢false}
 use native.Mathlib.Omega.{arith}
 use native.Mathlib.Nat.{mul-pos}
@@ -21,7 +21,7 @@ use Rattle.emissions.specs.declared.GridKind.the-variants.{Thermal, Hydr
 use Rattle.emissions.specs.declared.Grid.{Grid}
 use Rattle.emissions.specs.declared.Grid.the-variants.{Absent, Entered}
 use Rattle.emissions.specs.declared.Consumption.{Consumption}
-use Rattle.emissions.proofs.Outcomes.{never-given, test-held, then-given}
+use Rattle.emissions.proofs.Outcomes.{never-given, given-is, test-held, then-given}
 
 -- What the factors' laws ask of a grid: an accepted entry.
 abbrev pub GridSound : Grid → Type 0
@@ -66,11 +66,11 @@ default-limit grid c F e =
     first (eqb (c .baselines) 0 || ltb (c .baseline) (c .project)) (eqb (c .projects) 0 || ltb (c .project) (c .baseline)) e
   where
     second : (u : Bool) → cond u (given (lowDefault grid)) (refused 11) ≡ given F → F ≤ factorLimit
-    second true h = let z : lowDefault grid ≡ F = cc in omega (arith, low-limit grid)
+    second true h = omega (arith, low-limit grid, given-is h)
     second false h = absurd (never-given h)
 
     first : (t u : Bool) → cond t (given 1300000) (cond u (given (lowDefault grid)) (refused 11)) ≡ given F → F ≤ factorLimit
-    first true u h = let z : 1300000 ≡ F = cc in omega arith
+    first true u h = omega (arith, given-is h)
     first false u h = second u h
 
 captive-default-limit : (dir : Direction) → captiveDefault dir ≤ factorLimit
@@ -120,28 +120,20 @@ module _ (dir : Direction) (grid : Grid) (site : ℕ → Site) (c : Consumption)
   unfolding chosen
   chosen-sound Combined ch e =
       let p = test-held 8 (isEntered grid) (given combined) e in
-      let k = p .1 in
-      let z : combined ≡ ch = cc in
-      subst Sound z (combined-sound (p .0))
+      subst Sound (given-is (p .1)) (combined-sound (p .0))
   chosen-sound GridDefault ch e =
       let p = test-held 8 (isEntered grid) _ e in
       let q = then-given (gridDefault grid c) (λ F. given (default F)) (p .1) in
-      let k = q .2 in
-      let z : default (q .0) ≡ ch = cc in
-      subst Sound z (default-sound (q .0) (default-limit grid c (q .0) (q .1)))
+      subst Sound (given-is (q .2)) (default-sound (q .0) (default-limit grid c (q .0) (q .1)))
   chosen-sound (Captive S) ch e =
       let p = plants-held S (given (captive S)) e in
-      let k = p .1 in
-      let z : captive S ≡ ch = cc in
-      subst Sound z (p .0)
-  chosen-sound CaptiveDefault ch e =
-      let z : default (captiveDefault dir) ≡ ch = cc in
-      subst Sound z (default-sound (captiveDefault dir) (captive-default-limit dir))
+      subst Sound (given-is (p .1)) (p .0)
+  chosen-sound CaptiveDefault ch e = subst Sound (given-is e) (default-sound (captiveDefault dir) (captive-default-limit dir))
   chosen-sound (Either S) ch e =
       let p = test-held 8 (isEntered grid) _ e in
       let q = plants-held S _ (p .1) in
       either (prefersCaptive dir (margin dir grid) (captiveFactor dir (site S))) (p .0) (q .0) (q .1)
     where
       either : (t : Bool) → isEntered grid ≡ true → Sound (captive S) → given (cond t (captive S) combined) ≡ given ch → Sound ch
-      either true h k r = let z : captive S ≡ ch = cc in subst Sound z k
-      either false h k r = let z : combined ≡ ch = cc in subst Sound z (combined-sound h)
+      either true h k r = subst Sound (given-is r) k
+      either false h k r = subst Sound (given-is r) (combined-sound h)

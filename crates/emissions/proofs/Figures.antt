@@ -1,9 +1,9 @@
 -- A source's figure stands on the safe side of its exact figure, and its gap is below the limit. Assumes nothing.
 use Prim.Native.Nat.{ℕ, _+_, _*_, _<_, _≤_}
-use mathlib.Core.Path.{_≡_, refl, sym, ap, subst, _∙_}
+use mathlib.Core.Path.{_≡_, sym, subst}
 use native.Mathlib.Omega.{arith}
 use native.Mathlib.Nat.{mul-le-mul-left, mul-le-mul-right, mul-pos}
-use Rattle.rounding.specs.Divided.{divided, Rounds}
+use Rattle.rounding.specs.Divided.{Rounds}
 use Rattle.rounding.specs.Ratio.{Ratio, _÷_, whole, _≤ᵣ_, Conservative}
 use Rattle.rounding.specs.declared.Direction.{Direction}
 use Rattle.rounding.specs.declared.Direction.the-variants.{Up, Down}
@@ -11,6 +11,10 @@ use Rattle.rounding.proofs.Divided.{rounds, divided-at-most}
 use Rattle.rounding.proofs.Order.{same}
 use Rattle.rounding.proofs.Ratio.{conservative-widen}
 use Rattle.emissions.specs.Figure.{energyWithLosses, gramsOf, exactGrams, gapLimit}
+
+-- The limit of the gap with all of it over 10,000,000.
+abbrev plainLimit : ℕ → ℕ → Ratio
+plainLimit F U = (10000000 + 130 * (F + 2) + 11 * U) ÷ 10000000
 
 -- ---- the claims by numbers alone: e = (p − q) ÷ D, f = n ÷ m, K = 10,000 + T
 
@@ -76,6 +80,19 @@ module _ (p q D E K U n m F g : ℕ) (posD : 0 < D) (posm : 0 < m) (K≤ : K ≤
         mul-pos posD posm,
       )
 
+  -- Both claims, in either direction.
+  plain-near : (dir : Direction) → Conservative dir E record { plus = p; minus = q; over = D } (8 ÷ 1) → Conservative dir F (n ÷ m) (11 ÷ 10)
+      → Rounds dir (E * K) 10000 U → Rounds dir (U * F) 1000000 g
+      → Conservative dir g record { plus = p * K * n; minus = q * K * n; over = D * 10000 * m * 1000000 } (plainLimit F U)
+  plain-near Up he hf hu hg = (
+    omega (arith, up-safe (omega arith) (hu .0) (omega arith) (hg .0)),
+    omega (arith, up-near (omega arith) (hu .1) (omega arith) (omega arith) (hg .1)),
+  )
+  plain-near Down he hf hu hg = (
+    omega (arith, down-safe (omega arith) (hu .0) (omega arith) (hg .0)),
+    omega (arith, down-near (omega arith) (hu .1) (omega arith) (hg .1)),
+  )
+
 -- ---- the same of ratios
 
 -- The exact figure with all of it over one denominator, for a factor n ÷ m.
@@ -91,42 +108,9 @@ figure-is : (e : Ratio) (T : ℕ) (f : Ratio) → f .minus ≡ 0 → exactGrams 
 unfolding exactGrams
 figure-is e T f z = same (rw z (omega arith)) (rw z (omega arith)) (omega arith)
 
--- The limit of the gap with all of it over 10,000,000.
-abbrev plainLimit : ℕ → ℕ → Ratio
-plainLimit F U = (10000000 + 130 * (F + 2) + 11 * U) ÷ 10000000
-
 limit-is : (F U : ℕ) → gapLimit F U ≡ plainLimit F U
 unfolding gapLimit
 limit-is F U = same (omega arith) (omega arith) (omega arith)
-
-plain-near : (dir : Direction) (E T U F g : ℕ) (e : Ratio) (n m : ℕ) → 0 < e .over → 0 < m → T ≤ 5000
-    → Conservative dir E e (8 ÷ 1) → Conservative dir F (n ÷ m) (11 ÷ 10)
-    → Rounds dir (E * (10000 + T)) 10000 U → Rounds dir (U * F) 1000000 g
-    → Conservative dir g (plainFigure e T n m) (plainLimit F U)
-plain-near Up E T U F g e n m posD posm T≤ he hf hu hg = (
-  omega (
-    arith,
-    up-safe (e .plus) (e .minus) (e .over) E (10000 + T) U n m F g posD posm (omega arith)
-        (omega arith) (hu .0) (omega arith) (hg .0),
-  ),
-  omega (
-    arith,
-    up-near (e .plus) (e .minus) (e .over) E (10000 + T) U n m F g posD posm (omega arith)
-        (omega arith) (hu .1) (omega arith) (omega arith) (hg .1),
-  ),
-)
-plain-near Down E T U F g e n m posD posm T≤ he hf hu hg = (
-  omega (
-    arith,
-    down-safe (e .plus) (e .minus) (e .over) E (10000 + T) U n m F g posD posm (omega arith)
-        (omega arith) (hu .0) (omega arith) (hg .0),
-  ),
-  omega (
-    arith,
-    down-near (e .plus) (e .minus) (e .over) E (10000 + T) U n m F g posD posm (omega arith)
-        (omega arith) (hu .1) (omega arith) (hg .1),
-  ),
-)
 
 -- U within the limits of E and T.
 pub energy-limit : (dir : Direction) (E T : ℕ) → E ≤ 100000000000 → T ≤ 5000 → energyWithLosses dir E T ≤ 150000000000
@@ -154,7 +138,7 @@ module _ (dir : Direction) (E T F : ℕ) (e f : Ratio) (posD : 0 < e .over) (pos
       let g = gramsOf dir U F in
       subst (λ (x : Ratio). Conservative dir g x (gapLimit F U)) (sym (figure-is e T f z))
       (subst (λ (w : Ratio). Conservative dir g (plainFigure e T (f .plus) (f .over)) w) (sym (limit-is F U))
-      (plain-near dir E T U F g e (f .plus) (f .over) posD posm T≤ he
+      (plain-near (e .plus) (e .minus) (e .over) E (10000 + T) U (f .plus) (f .over) F g posD posm (omega arith) dir he
       (subst (λ (k : ℕ). Conservative dir F (record { plus = f .plus; minus = k; over = f .over }) (11 ÷ 10)) z hf)
       (rounds dir (E * (10000 + T)) 10000 (omega arith)) (rounds dir (U * F) 1000000 (omega arith))))
 

@@ -1,20 +1,19 @@
 -- What callers know of a fuel line: it rounds the exact quotient, and is bounded within the limits. Assumes nothing.
-use Prim.Native.Nat.{ℕ, _+_, _*_, _<_, _≤_}
-use mathlib.Core.Path.{_≡_, refl, sym, ap, _∙_}
-use mathlib.Core.Bool.{Bool, true, false, cond, _&&_, true≢false}
+use Prim.Native.Nat.{ℕ, _*_, _<_, _≤_}
+use mathlib.Core.Path.{_≡_}
+use mathlib.Core.Bool.{true, _&&_}
 use native.Mathlib.Omega.{arith}
 use native.Mathlib.Nat.{mul-le-mul-right, mul-le-mul-left}
 use lib.Dec.{leb}
 use borrow.Author.Tests.{leb-true}
-use Rattle.rounding.specs.Divided.{divided, Rounds}
-use Rattle.rounding.specs.Ratio.{Ratio, _÷_, whole, _≤ᵣ_, Conservative}
+use Rattle.rounding.specs.Divided.{Rounds}
+use Rattle.rounding.specs.Ratio.{whole, Conservative}
 use Rattle.rounding.specs.declared.Direction.{Direction}
 use Rattle.rounding.proofs.Divided.{rounds, divided-at-most}
 use Rattle.rounding.proofs.Ratio.{rounds-conservative}
-use Rattle.fuel.specs.Fuel.{withinLimits, exactMilligrams, roundedMilligrams, lineMilligrams}
+use Rattle.rounding.proofs.Tests.{and-both}
+use Rattle.fuel.specs.Fuel.{withinLimits, exactMilligrams, roundedMilligrams}
 use Rattle.fuel.specs.declared.FuelLine.{FuelLine}
-use Rattle.fuel.specs.declared.Milligrams.{Milligrams}
-use Rattle.fuel.specs.declared.Milligrams.the-variants.{Refused, Rounded}
 
 -- The denominator of the exact milligrams is above 0.
 pub line-over : (l : FuelLine) → 0 < exactMilligrams l .over
@@ -32,10 +31,6 @@ unfolding exactMilligrams
 line-conservative dir l = rounds-conservative dir (exactMilligrams l .plus) (exactMilligrams l .over) (roundedMilligrams dir l) (line-rounds dir l)
 
 -- ---- the bound within the limits
-
-pub and-both : (a b : Bool) → (a && b) ≡ true → (a ≡ true) × (b ≡ true)
-and-both true b e = (refl, e)
-and-both false b e = absurd (true≢false (sym e))
 
 -- Q, V and C within their limits.
 pub record Limits (l : FuelLine) : Type 0 where

@@ -1,16 +1,16 @@
 -- Demand 3, for every list of calls: the ledger's records always show what stands, so each answer is the one that the rules fix for it, and
 -- each report given is safe. Assumes nothing.
-use Prim.Native.Nat.{ℕ, zero, suc, _+_, _<_, _≤_}
+use Prim.Native.Nat.{ℕ, zero, suc, _<_, _≤_}
 use mathlib.Core.Path.{_≡_, refl, sym, ap, subst, fun-ext, _∙_}
-use mathlib.Core.Bool.{Bool, true, false, cond, _&&_}
-use mathlib.Core.List.{List, [], _∷_}
-use mathlib.Core.Option.{Option, none, some}
+use mathlib.Core.Bool.{Bool, true, false, cond}
+use mathlib.Core.List.{List}
+use mathlib.Core.Option.{Option, none, some, Option·some-injective}
 use native.Mathlib.Omega.{arith}
 use lib.Dec.{eqb}
 use lib.ListN.{length, getD, set, replicate, take, length-set}
 use lib.Seq.{getD-set-same, getD-set-other}
 use borrow.Author.Tests.{eqb-true, eqb-false, le-leb}
-use Rattle.rounding.specs.Calls.{afterCalls, answers, Held}
+use Rattle.rounding.specs.Calls.{afterCalls, answers}
 use Rattle.rounding.proofs.Calls.{calls-held, calls-agree, held-at}
 use Rattle.emissions.specs.Outcome.{Outcome, refused, given}
 use Rattle.emissions.specs.Factor.{factorLimit}
@@ -18,11 +18,11 @@ use Rattle.emissions.specs.declared.GridEntry.{GridEntry}
 use Rattle.emissions.specs.declared.Grid.{Grid}
 use Rattle.emissions.specs.declared.Grid.the-variants.{Absent, Entered}
 use Rattle.emissions.proofs.Factors.{GridSound}
-use Rattle.ledger.specs.Judging.{gridJudged, plantJudged, sourceJudged, isThere, dropJudged, kept}
-use Rattle.ledger.specs.Report.{Books, Report, Reply, ok, refusedWith, reported, damaged, reportOf}
-use Rattle.ledger.specs.Standing.{Call, enterGrid, enterPlant, enterSource, dropPlant, dropSource, report, Standing, nothing, put, whereGiven, after, energyOf, keptOf, books, acknowledged, answer}
+use Rattle.ledger.specs.Judging.{gridJudged, plantJudged, sourceJudged, isThere, dropJudged}
+use Rattle.ledger.specs.Report.{Books, Report, Reply, reported, damaged, reportOf}
+use Rattle.ledger.specs.Standing.{Call, enterGrid, enterPlant, enterSource, dropPlant, dropSource, report, Standing, nothing, put, whereGiven, after, keptOf, books, acknowledged, answer}
 use Rattle.ledger.specs.Operations.{noPlant, noSource, newLedger, plantIn, sourceIn, recorded, withPlant, withSource, step, gridIntact, plantIntact, sourceIntact, allIntact, intact, reply}
-use Rattle.ledger.specs.Claim.{ReportSafe, Claim, Demand3}
+use Rattle.ledger.specs.Claim.{Claim, Demand3}
 use Rattle.ledger.specs.declared.Plant.{Plant}
 use Rattle.ledger.specs.declared.SourceEntry.{SourceEntry}
 use Rattle.ledger.specs.declared.Source.{Source}
@@ -151,7 +151,7 @@ keeps l s (enterPlant n p) h = go (plantJudged n p) refl
         subst (λ (x : Plant). Agree (withPlant l n (record { stands = true; plant = x })) (record { grid = s .grid; plant = put (s .plant) n (some p); source = s .source }))
         (sym (f .0))
         (plant-put l s h n (record { stands = true; plant = p }) (f .1 .number)
-        (λ q w. let z : p ≡ q = cc in subst (PlantFacts n) z (f .1)))
+        (λ q w. subst (PlantFacts n) (Option·some-injective p q w) (f .1)))
 keeps l s (enterSource n e) h = go (sourceJudged n e) refl
   where
     go : (o : Outcome Source) → sourceJudged n e ≡ o
@@ -161,7 +161,7 @@ keeps l s (enterSource n e) h = go (sourceJudged n e) refl
     go (given a) q =
         let f = source-facts n e a q in
         source-put l s h n (record { stands = true; source = a }) (some e) (f .1 .number) (ap some (f .0))
-        (λ d w. let z : e ≡ d = cc in subst (SourceFacts n) z (f .1))
+        (λ d w. subst (SourceFacts n) (Option·some-injective e d w) (f .1))
 keeps l s (dropPlant n) h =
     subst (λ (o : Outcome (Unit {0})). Agree (whereGiven o (λ a. withPlant l n noPlant) l) (after s (dropPlant n)))
     (sym (ap (λ (b : Books). dropJudged 7 (b .plant) n) (h .same))) (go (dropJudged 7 (s .plant) n) refl)
@@ -214,8 +214,10 @@ never-reported (refused n) r e = let z : _≡_ {A = ℕ} 0 1 = cc in omega arith
 never-reported (given a) r e = let z : _≡_ {A = ℕ} 0 1 = cc in omega arith
 
 module _ (l : Ledger) (s : Standing) (h : Agree l s) where
-  answered : (c : Call) → answer (recorded l) c ≡ answer (books s) c
-  answered c = ap (λ (b : Books). answer b c) (h .same)
+  -- A call that is answered with no report.
+  acknowledged-good : {A : Type 0} (c : Call) (o : Outcome A) → answer (recorded l) c ≡ acknowledged o → Claim s c (answer (recorded l) c)
+  acknowledged-good c o e =
+      record { answered = ap (λ (b : Books). answer b c) (h .same); safe = λ r w. absurd (never-reported o r (sym e ∙ w)) }
 
   report-answered : reply l report ≡ reportOf (books s)
   unfolding reply
@@ -225,11 +227,11 @@ module _ (l : Ledger) (s : Standing) (h : Agree l s) where
 
 good : (l : Ledger) (s : Standing) (c : Call) → Agree l s → Claim s c (reply l c)
 unfolding reply answer
-good l s (enterGrid g) h = record { answered = answered l s h (enterGrid g); safe = λ r e. absurd (never-reported (gridJudged g) r e) }
-good l s (enterPlant n p) h = record { answered = answered l s h (enterPlant n p); safe = λ r e. absurd (never-reported (plantJudged n p) r e) }
-good l s (enterSource n a) h = record { answered = answered l s h (enterSource n a); safe = λ r e. absurd (never-reported (sourceJudged n a) r e) }
-good l s (dropPlant n) h = record { answered = answered l s h (dropPlant n); safe = λ r e. absurd (never-reported (dropJudged 7 (recorded l .plant) n) r e) }
-good l s (dropSource n) h = record { answered = answered l s h (dropSource n); safe = λ r e. absurd (never-reported (dropJudged 31 (recorded l .source) n) r e) }
+good l s (enterGrid g) h = acknowledged-good l s h (enterGrid g) (gridJudged g) refl
+good l s (enterPlant n p) h = acknowledged-good l s h (enterPlant n p) (plantJudged n p) refl
+good l s (enterSource n a) h = acknowledged-good l s h (enterSource n a) (sourceJudged n a) refl
+good l s (dropPlant n) h = acknowledged-good l s h (dropPlant n) (dropJudged 7 (recorded l .plant) n) refl
+good l s (dropSource n) h = acknowledged-good l s h (dropSource n) (dropJudged 31 (recorded l .source) n) refl
 good l s report h =
     record { answered = report-answered l s h; safe = λ r e. report-safe s (h .accepted) r (sym (report-answered l s h) ∙ e) }
 

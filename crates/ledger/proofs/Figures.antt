@@ -1,5 +1,5 @@
 -- Each standing source's figure stands on the safe side of its exact figure, and so do the sides and the reduction. Assumes nothing.
-use Prim.Native.Nat.{ℕ, _+_, _<_, _≤_, zero-le}
+use Prim.Native.Nat.{ℕ, _<_, _≤_, zero-le}
 use mathlib.Core.Path.{_≡_, refl, sym, ap, subst, _∙_}
 use mathlib.Core.Bool.{Bool, true, false, cond}
 use mathlib.Core.List.{List, [], _∷_, map}
@@ -8,34 +8,33 @@ use native.Mathlib.Omega.{arith}
 use native.Mathlib.Nat.{mul-pos}
 use lib.Dec.{eqb}
 use lib.ListN.{length}
-use borrow.Author.Tests.{eqb-true}
 use Rattle.rounding.specs.Divided.{divided, sum}
-use Rattle.rounding.specs.Ratio.{Ratio, _÷_, whole, _≤ᵣ_, _<ᵣ_, _+ᵣ_, _per_, sumᵣ, integer, Conservative}
+use Rattle.rounding.specs.Ratio.{Ratio, whole, _per_, sumᵣ, Conservative}
 use Rattle.rounding.specs.declared.Direction.{Direction}
-use Rattle.rounding.proofs.Ratio.{All, Within, sum-over, conservative-within, conservative-distance}
+use Rattle.rounding.proofs.Ratio.{All, Within, all-then, sum-over, conservative-within, conservative-distance}
 use Rattle.metering.specs.Reading.{limit}
 use Rattle.metering.specs.Energy.{exactEnergy}
 use Rattle.metering.proofs.Readings.{unit-above-zero}
-use Rattle.emissions.specs.Outcome.{Outcome, refused, given, andThen}
-use Rattle.emissions.specs.Factor.{direction, factorLimit, Choice, chosen, factorOf, exactFactorOf}
+use Rattle.emissions.specs.Outcome.{Outcome, refused, given}
+use Rattle.emissions.specs.Factor.{direction, Choice, chosen, factorOf, exactFactorOf}
 use Rattle.emissions.specs.Loss.{lossOf}
 use Rattle.emissions.specs.Figure.{Figure, figureOf, energyWithLosses, gramsOf, exactGrams, gapLimit}
 use Rattle.emissions.specs.declared.Side.{Side}
 use Rattle.emissions.specs.declared.Side.the-variants.{Project, Leakage, Baseline}
-use Rattle.emissions.proofs.Outcomes.{then-given}
+use Rattle.emissions.proofs.Outcomes.{given-is, then-given}
 use Rattle.emissions.proofs.Factors.{GridSound, FactorSound, chosen-sound}
 use Rattle.emissions.proofs.Losses.{loss-limit}
 use Rattle.emissions.proofs.Figures.{figure-conservative, figure-within-allowance, figure-over}
 use Rattle.ledger.specs.Judging.{metersOf, kept}
-use Rattle.ledger.specs.Report.{Books, Numbered, standing, sourcesOf, plantsOf, those, consumption, comparesFactor, comparesLoss, siteOf, sourceFigure, Figured, Figures, declined, figured, joined, withFigure, figuresFrom, sideIndex, ofSide, gramsIn, SideReport, sideReport, Report, reportFrom, Reply, refusedWith, refusedAt, reported, allFit, replyFrom, reportOf}
+use Rattle.ledger.specs.Report.{Numbered, sourcesOf, plantsOf, consumption, comparesFactor, comparesLoss, siteOf, sourceFigure, Figured, Figures, declined, figured, withFigure, figuresFrom, sideIndex, ofSide, gramsIn, sideReport, Report, reportFrom, refusedWith, refusedAt, reported, allFit, replyFrom, reportOf}
 use Rattle.ledger.specs.Standing.{Standing, energyOf, keptOf, books}
-use Rattle.ledger.specs.Exact.{exactEnergyOf, exactFigure, gap, listOf, figuresOf, exactSide, exactReduction, sideAllowance, reductionAllowance}
+use Rattle.ledger.specs.Exact.{exactEnergyOf, exactFigure, gap, listOf, figuresOf, exactSide, exactReduction, sideAllowance}
 use Rattle.ledger.specs.Claim.{SourceSafe, SideSafe, ReportSafe}
 use Rattle.ledger.specs.declared.Plant.{Plant}
 use Rattle.ledger.specs.declared.SourceEntry.{SourceEntry}
 use Rattle.ledger.specs.declared.Source.{Source}
 use Rattle.ledger.proofs.Entries.{PlantFacts, SourceFacts}
-use Rattle.ledger.proofs.Sites.{all-then, site-sound}
+use Rattle.ledger.proofs.Sites.{site-sound}
 use Rattle.ledger.proofs.Sides.{side-conservative, reduction-safe, reduction-near, reduction-over}
 use Rattle.ledger.proofs.Lists.{numbered, never-some, standing-all, standing-at, those-all}
 
@@ -106,9 +105,7 @@ unfolding sourceFigure
 source-safe s h n e at f q =
     let a = then-given (chosen (direction (e .side)) (s .grid) (siteOf (plantsOf (books s))) (consumption comparesFactor (sourcesOf (books s))) (e .supply)) _ q in
     let b = then-given (lossOf (direction (e .side)) (consumption comparesLoss (sourcesOf (books s))) (e .loss)) _ (a .2) in
-    let k = b .2 in
-    let z : figureOf (direction (e .side)) (energyOf e) (a .0) (b .0) (factorOf (direction (e .side)) (s .grid) (siteOf (plantsOf (books s))) (a .0)) ≡ f = cc in
-    subst (λ (g : Figure). FiguredSafe s (figuredAt n e g)) z (option-safe s h n e at (a .0) (b .0) (a .1) (b .1))
+    subst (λ (g : Figure). FiguredSafe s (figuredAt n e g)) (given-is (b .2)) (option-safe s h n e at (a .0) (b .0) (a .1) (b .1))
 
 -- ---- the list of figures
 

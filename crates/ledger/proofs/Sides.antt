@@ -1,19 +1,19 @@
 -- A side's tonnes and the reduction stand on the safe side of their exact values, within the allowances, for any figures that each stand
 -- less than 200 kilograms off. Assumes nothing.
 use Prim.Native.Nat.{ℕ, _+_, _*_, _<_, _≤_}
-use mathlib.Core.Path.{_≡_, ap, subst}
-use mathlib.Core.List.{List, [], _∷_, map}
+use mathlib.Core.Path.{_≡_, ap}
+use mathlib.Core.List.{List, map}
 use native.Mathlib.Omega.{arith}
 use native.Mathlib.Nat.{mul-le-mul-right, mul-pos}
-use lib.IntN.{ℤ, pos, _-ℤ_}
+use lib.IntN.{pos, _-ℤ_}
 use lib.ListN.{length}
 use Rattle.rounding.specs.Divided.{divided, sum}
-use Rattle.rounding.specs.Ratio.{Ratio, _÷_, whole, integer, _≤ᵣ_, _<ᵣ_, _+ᵣ_, _-ᵣ_, _per_, sumᵣ, Conservative}
+use Rattle.rounding.specs.Ratio.{Ratio, whole, integer, _≤ᵣ_, _<ᵣ_, _+ᵣ_, _-ᵣ_, _per_, sumᵣ, Conservative}
 use Rattle.rounding.specs.declared.Direction.{Direction}
 use Rattle.rounding.specs.declared.Direction.the-variants.{Up, Down}
 use Rattle.rounding.proofs.Divided.{rounds}
 use Rattle.rounding.proofs.Integers.{Differ, less-differ}
-use Rattle.rounding.proofs.Ratio.{Within, All, sum-within, sum-equal, within-divided, conservative-widen}
+use Rattle.rounding.proofs.Ratio.{Within, All, sum-within-equal, within-divided, conservative-widen}
 use Rattle.ledger.specs.Report.{reduction}
 use Rattle.ledger.specs.Exact.{sideAllowance, reductionAllowance}
 
@@ -32,7 +32,7 @@ module _ {A : Type 0} (dir : Direction) (value : A → ℕ) (exact : A → Ratio
       conservative-widen dir (divided dir g 1000000) (x per 1000000) (whole w per 1000000 +ᵣ whole 1) (sideAllowance (length fs))
       (omega arith) (omega arith) (allowance-is (length fs))
       (within-divided dir g 1000000 (divided dir g 1000000) x (whole w) (omega arith) above (omega arith)
-      (subst (λ (a : Ratio). Within dir g x a) (sum-equal 200000 fs) (sum-within dir value exact (λ (f : A). whole 200000) fs h))
+      (sum-within-equal dir value exact 200000 (length fs) fs (omega arith) h)
       (rounds dir g 1000000 (omega arith)))
 
 -- ---- the reduction

@@ -1,6 +1,6 @@
 -- A source's meters: what one meter and a list of them give, and how near the energy is to the exact one. Assumes nothing.
 use mathlib.Core.Path.{_≡_, refl, sym, ap, _∙_, subst}
-use mathlib.Core.Bool.{Bool, true, false, not, cond, _&&_, _||_, true≢false}
+use mathlib.Core.Bool.{Bool, true, false, not, cond, _&&_, _||_}
 use mathlib.Core.List.{List, [], _∷_, map}
 use Prim.Native.Nat.{ℕ, zero, suc, _+_, _-_, _*_, _≤_, _<_}
 use native.Mathlib.Nat.{add-assoc, add-zero, zero-add, sub-zero, mul-le-mul-right, mul-lt-mul-of-pos-right}
@@ -15,6 +15,7 @@ use Rattle.rounding.specs.declared.Direction.the-variants.{Up, Down}
 use Rattle.rounding.specs.Divided.{divided, opposite, sum}
 use Rattle.rounding.specs.Ratio.{_÷_, Conservative}
 use Rattle.rounding.proofs.Divided.{RoundsSum, rounds-sum}
+use Rattle.rounding.proofs.Tests.{and-both, ltb-kept}
 use Rattle.metering.specs.Reading.{unit, limit, exact, accepted, wattHours}
 use Rattle.metering.specs.Energy.{firstOf, lastOf, addingOf, takingOf, adding, taking, isAccepted, runsBack, every, some}
 use Rattle.metering.specs.Energy.{exactEnergy, roundedAdding, roundedTaking, judgedReadings, judgedMeters, settledEnergy}
@@ -28,12 +29,7 @@ use Rattle.metering.specs.declared.MeterRead.the-variants.{Refused, Move
 use Rattle.metering.specs.declared.MetersJudged.{MetersJudged}
 use Rattle.metering.specs.declared.MetersJudged.the-variants as metersJudged
 use Rattle.metering.specs.declared.EnergyJudged.the-variants as energyJudged
-use Rattle.metering.proofs.Patterns.{ltb-kept}
 use Rattle.metering.proofs.Readings.{unit-above-zero, was-given, rounded-within}
-
-pub and-true : (a b : Bool) → (a && b) ≡ true → (a ≡ true) × (b ≡ true)
-and-true true b e = (refl, e)
-and-true false b e = absurd (true≢false (sym e))
 
 and-swap : (a b : Bool) → (a && b) ≡ (b && a)
 and-swap true true = refl
@@ -78,7 +74,7 @@ module _ (dir : Direction) (m : Meter) where
   pub meter-within : (a t : ℕ) (b : Bool) → meterRead dir m ≡ Moved a t b → (a ≤ limit) × (t ≤ limit)
   meter-within a t b e =
       let w = go (isAccepted m) e in
-      let p = and-true (accepted (adding m)) (accepted (taking m)) (sym (accepted-both m) ∙ w .0) in (
+      let p = and-both (accepted (adding m)) (accepted (taking m)) (sym (accepted-both m) ∙ w .0) in (
         subst (λ (n : ℕ). n ≤ limit) (w .1) (rounded-within dir (adding m) (p .0)),
         subst (λ (n : ℕ). n ≤ limit) (w .2) (rounded-within (opposite dir) (taking m) (p .1)),
       )
@@ -198,7 +194,8 @@ judged-by-reads dir ms = go (every isAccepted ms) (some runsBack ms) (roundedAdd
 
 -- ---- the energy
 
-was-read : (dir : Direction) (n : ℕ) (ms : List Meter) (a t : ℕ) → judgedMeters dir n ms ≡ metersJudged.Read a t
+-- Where sums are read, there are at most four meters, and the sums are those of the first n.
+pub was-read : (dir : Direction) (n : ℕ) (ms : List Meter) (a t : ℕ) → judgedMeters dir n ms ≡ metersJudged.Read a t
     → (leb n 4 ≡ true) × (roundedAdding dir (take n ms) ≡ a) × (roundedTaking dir (take n ms) ≡ t)
 unfolding judgedMeters judgedReadings
 was-read dir n ms a t e =
@@ -215,11 +212,12 @@ was-read dir n ms a t e =
     go true false s u x y r = (cc, cc, cc)
     go false q s u x y r = (cc, cc, cc)
 
-was-settled : (a t E : ℕ) → settledEnergy a t ≡ energyJudged.Accepted E → (E + t ≡ a) × (E ≤ limit)
+-- Where an energy is accepted, it is the difference of the sums, within its limit.
+pub was-settled : (a t E : ℕ) → settledEnergy a t ≡ energyJudged.Accepted E → (E + t ≡ a) × (E ≤ limit)
 unfolding settledEnergy
 was-settled a t E e =
     let w = go (leb t a && leb a (t + limit)) e in
-    let p = and-true (leb t a) (leb a (t + limit)) (w .0) in
+    let p = and-both (leb t a) (leb a (t + limit)) (w .0) in
     difference (leb-true t a (p .0)) (leb-true a (t + limit) (p .1)) (w .1)
   where
     go : (s : Bool) → cond s (energyJudged.Accepted (a - t)) (energyJudged.Refused 6) ≡ energyJudged.Accepted E
@@ -233,6 +231,10 @@ was-settled a t E e =
 -- An accepted energy is within its limit.
 pub energy-limit : (a t E : ℕ) → settledEnergy a t ≡ energyJudged.Accepted E → E ≤ limit
 energy-limit a t E e = was-settled a t E e .1
+
+-- The first n of a list are at most n.
+pub taken-length : {A : Type 0} (n k : ℕ) (xs : List A) → n ≤ k → length (take n xs) ≤ k
+taken-length n k xs h = simp length-take (omega arith)
 
 -- At most four readings each way, each less than 1 off, at a unit u: `omega` takes no number of more than 38 digits.
 near : (dir : Direction) (u E a t n x y : ℕ) → 0 < u → n ≤ 4 → E + t ≡ a → RoundsSum dir x n u a → RoundsSum (opposite dir) y n u t
@@ -256,11 +258,8 @@ unfolding exactEnergy roundedAdding roundedTaking
 energy-conservative dir n ms a t E r s =
     let w = was-read dir n ms a t r in
     near dir unit E a t (length (take n ms)) (sum (map adds (take n ms))) (sum (map takes (take n ms)))
-    unit-above-zero (short (leb-true n 4 (w .0))) (was-settled a t E s .0)
+    unit-above-zero (taken-length n 4 ms (leb-true n 4 (w .0))) (was-settled a t E s .0)
     (subst (RoundsSum dir (sum (map adds (take n ms))) (length (take n ms)) unit) (w .1)
     (rounds-sum dir unit unit-above-zero adds (take n ms)))
     (subst (RoundsSum (opposite dir) (sum (map takes (take n ms))) (length (take n ms)) unit) (w .2)
     (rounds-sum (opposite dir) unit unit-above-zero takes (take n ms)))
-  where
-    short : n ≤ 4 → length (take n ms) ≤ 4
-    short k = simp length-take (omega arith)

@@ -5,9 +5,9 @@ use mathlib.Core.Logic.{_⊎_, inl, inr}
 use mathlib.Core.Bool.{Bool, true, false, not, _&&_, cond, true≢false}
 use Prim.Native.Nat.{ℕ, zero, suc, _+_, _*_, _/_, _%_, _^_, _≤_, _<_}
 use native.Mathlib.Nat.{mul-assoc, mul-one, mul-pos, mul-div-cancel, mul-le-mul-left, mul-lt-mul-of-pos-right, pow-suc}
-use native.Mathlib.Nat.{lt-irrefl, lt-of-lt-of-le, eq-or-lt-of-le}
+use native.Mathlib.Nat.{not-suc-le-zero, lt-irrefl, lt-of-lt-of-le, eq-or-lt-of-le}
 use native.Mathlib.Omega.{arith}
-use lib.Dec.{T, leb, ltb, eqb, ltb→lt, nltb→le}
+use lib.Dec.{T, leb, ltb, eqb}
 use lib.Pow.{pow-pos, pow-mono}
 use lib.IntN.{ℤ}
 use lib.Ieee.{Float, nan, inf, fin, binary32, up, down, odd, ofFields, ofBits, toBits, fits, isNan, ne}
@@ -16,7 +16,8 @@ use lib.Ieee.Compare.{differs-from-itself, nan-differs}
 use lib.Ieee.Exact.{HasValue, odd-sign}
 use lib.Ieee.Fits.{down-pos}
 use lib.Ieee.Positive.{first-pos}
-use borrow.Author.Tests.{le-leb, lt-leb, lt-ltb, le-ltb, ne-eqb}
+use borrow.Author.Tests.{le-leb, lt-leb, ne-eqb}
+use Rattle.rounding.proofs.Tests.{and-both, ltb-kept}
 use Rattle.metering.specs.Reading.{unit, limit, exactRegister, isReadableRegister, accepted}
 use Rattle.metering.specs.Steps.{magnitude}
 use Rattle.metering.specs.declared.Reading.the-variants.{Single}
@@ -171,10 +172,7 @@ accepted-at b h l =
 -- From field 154 a magnitude is above the limit. The unit is a variable: `omega` takes no number of more than 38 digits.
 magnitude-beyond : (x t : ℕ) → 153 < x → limit * unit < magnitude x t
 unfolding magnitude
-magnitude-beyond zero t h = absurd (none h)
-  where
-    none : 153 < 0 → ⊥
-    none h = omega arith
+magnitude-beyond zero t h = absurd (not-suc-le-zero h)
 magnitude-beyond (suc x) t h =
     lt-of-lt-of-le (over (8388608 + t) unit (pow-pos 149) (more t))
     (mul-le-mul-left 1000 (mul-le-mul-left (8388608 + t) (pow-mono {i = 153} {j = x} (from x h))))
@@ -207,11 +205,7 @@ unfolding isReadableRegister
 nan-refused x h = no-number-refused x (ap isReadableRegister (differs-from-itself x (subst T (sym h) tt)))
 
 pub accepted-number : (x : Float) → accepted (Single x) ≡ true → isReadableRegister x ≡ true
-accepted-number x h = go (isReadableRegister x) h
-  where
-    go : (t : Bool) → (t && leb (exactRegister x) (limit * unit)) ≡ true → t ≡ true
-    go true e = refl
-    go false e = e
+accepted-number x h = and-both (isReadableRegister x) _ h .0
 
 pub number-no-nan : (x : Float) → isReadableRegister x ≡ true → T (not (isNan x))
 unfolding isNan isReadableRegister
@@ -230,10 +224,7 @@ size-under (suc x) t h = rw pow-suc (go (2 ^ x) (pow-pos x))
     go p k = omega (arith, mul-lt-mul-of-pos-right h k)
 
 size-over : (x y u : ℕ) → x < y → 8388608 * 2 ^ x ≤ size y u
-size-over x zero u h = absurd (none h)
-  where
-    none : x < 0 → ⊥
-    none h = omega arith
+size-over x zero u h = absurd (not-suc-le-zero h)
 size-over x (suc y) u h = go (2 ^ x) (2 ^ y) (pow-mono {i = x} {j = y} (omega arith))
   where
     go : (p q : ℕ) → p ≤ q → 8388608 * p ≤ (8388608 + u) * q
@@ -261,30 +252,6 @@ size-order a b h = elim (eq-or-lt-of-le (fields-order a b h)) [
 
     digits-order : (a b : ℕ) → a < b → a / 8388608 ≡ b / 8388608 → a % 8388608 < b % 8388608
     digits-order a b h e = omega arith
-
-lt-or-ge : (a b : ℕ) → (a < b) ⊎ (b ≤ a)
-lt-or-ge a b = go (ltb a b) (ltb→lt a b) (nltb→le a b)
-  where
-    go : (t : Bool) → (T t → a < b) → (T (not t) → b ≤ a) → (a < b) ⊎ (b ≤ a)
-    go true p q = inl (p tt)
-    go false p q = inr (q tt)
-
--- A map that keeps the strict order keeps the test of it.
-pub ltb-kept : (f : ℕ → ℕ) → ((a b : ℕ) → a < b → f a < f b) → (a b : ℕ) → ltb a b ≡ ltb (f a) (f b)
-ltb-kept f keeps a b = elim (lt-or-ge a b) [
-  | inl l ↦ lt-ltb a b l ∙ sym (lt-ltb (f a) (f b) (keeps a b l))
-  | inr g ↦ le-ltb a b g ∙ sym (le-ltb (f a) (f b) (weak (eq-or-lt-of-le g)))
-]
-  where
-    less : (x y : ℕ) → x < y → x ≤ y
-    less x y h = omega arith
-
-    weak : (b ≡ a) ⊎ (b < a) → f b ≤ f a
-    weak (inl e) = subst (λ (x : ℕ). f b ≤ f x) e (same (f b))
-      where
-        same : (x : ℕ) → x ≤ x
-        same x = omega arith
-    weak (inr k) = less (f b) (f a) (keeps b a k)
 
 number-field : (b : ℕ) → isReadableRegister (ofBits binary32 b) ≡ true → fieldOf b < 255
 number-field b h = elim (number-or-not b) [ inl l ↦ l | inr e ↦ absurd (true≢false (sym h ∙ e)) ]

@@ -1,6 +1,6 @@
 -- A reading's whole watt-hours: when they are given, and that they round the exact value. Assumes nothing.
 use mathlib.Core.Path.{_≡_, refl, sym, ap, _∙_, subst}
-use mathlib.Core.Bool.{Bool, true, false, cond, _&&_, true≢false}
+use mathlib.Core.Bool.{Bool, true, false, cond}
 use Prim.Native.Nat.{ℕ, _*_, _≤_, _<_}
 use native.Mathlib.Nat.{mul-le-mul-right, mul-lt-mul-of-pos-right}
 use native.Mathlib.Omega.{arith}
@@ -11,6 +11,7 @@ use Rattle.rounding.specs.declared.Direction.{Direction}
 use Rattle.rounding.specs.declared.Direction.the-variants.{Up}
 use Rattle.rounding.specs.Divided.{divided, Rounds}
 use Rattle.rounding.proofs.Divided.{rounds, divided-at-most, divided-up-bounds, divided-whole}
+use Rattle.rounding.proofs.Tests.{and-both}
 use Rattle.metering.specs.Reading.{unit, limit, exact, isReadable, accepted, wattHours}
 use Rattle.metering.specs.declared.Reading.{Reading}
 use Rattle.metering.specs.declared.Reading.the-variants.{Whole}
@@ -42,11 +43,7 @@ was-declined dir r e = go (accepted r) e
     go false h = refl
 
 within-limit : (r : Reading) → accepted r ≡ true → exact r ≤ limit * unit
-within-limit r h = leb-true (exact r) (limit * unit) (go (isReadable r) h)
-  where
-    go : (t : Bool) → (t && leb (exact r) (limit * unit)) ≡ true → leb (exact r) (limit * unit) ≡ true
-    go true e = e
-    go false e = absurd (true≢false (sym e))
+within-limit r h = leb-true (exact r) (limit * unit) (and-both (isReadable r) _ h .1)
 
 pub rounded-within : (dir : Direction) (r : Reading) → accepted r ≡ true → divided dir (exact r) unit ≤ limit
 rounded-within dir r h = divided-at-most dir (exact r) unit limit unit-above-zero (within-limit r h)

@@ -1,3 +1,4 @@
+pub mod Tests
 pub mod Divided
 pub mod Order
 pub mod Ratio

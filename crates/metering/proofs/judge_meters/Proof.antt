@@ -1,6 +1,6 @@
 -- `metering::judge_meters` meets its contract: the count, then what the loop gave, which meets 3 before 4. Assumes nothing.
 use borrow.Author.Needs.{needs}
-use mathlib.Core.Path.{_≡_, refl, sym, ap, _∙_}
+use mathlib.Core.Path.{_≡_, sym, ap, _∙_}
 use mathlib.Core.Bool.{Bool, true, false, cond, _&&_}
 use mathlib.Core.List.{List}
 use Prim.Native.Nat.{ℕ, _≤_}
@@ -9,6 +9,7 @@ use lib.Dec.{leb}
 use lib.ListN.{take}
 use borrow.Author.Tests.{le-leb, lt-leb}
 use Rattle.rounding.specs.declared.Direction.{Direction}
+use Rattle.rounding.proofs.Tests.{second-fails}
 use Rattle.metering.specs.Energy.{judgedReadings, judgedMeters}
 use Rattle.metering.specs.Steps.{metersRead}
 use Rattle.metering.specs.declared.Meter.{Meter}
@@ -35,11 +36,7 @@ returns c = not-counted (c .before .args .direction) (c .before .args .count) (c
 returns-2 : tie.Need-returns-2
 returns-2 c =
     let a = c .before .before .args in
-    not-counted (a .direction) (a .count) (a .meters) (over (leb 1 (a .count)) (leb (a .count) 4) (lt-leb (a .count) 4 (c .if2 .taken)))
-  where
-    over : (t f : Bool) → f ≡ false → (t && f) ≡ false
-    over true f h = h
-    over false f h = refl
+    not-counted (a .direction) (a .count) (a .meters) (second-fails (leb 1 (a .count)) (leb (a .count) 4) (lt-leb (a .count) 4 (c .if2 .taken)))
 
 read-meters-requires : tie.Need-read-meters-requires
 read-meters-requires c κs = search needs

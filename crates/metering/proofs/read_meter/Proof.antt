@@ -1,9 +1,10 @@
 -- `metering::read_meter` meets its contract: what adds and what is taken, each by its rounded reading. Assumes nothing.
 use borrow.Author.Needs.{needs}
-use mathlib.Core.Path.{_≡_, refl, sym, ap, _∙_}
-use mathlib.Core.Bool.{Bool, true, false, _&&_}
+use mathlib.Core.Path.{_≡_, sym, ap, _∙_}
+use mathlib.Core.Bool.{Bool, false, _&&_}
 use Rattle.rounding.specs.declared.Direction.{Direction}
 use Rattle.rounding.specs.Divided.{opposite}
+use Rattle.rounding.proofs.Tests.{second-fails}
 use Rattle.metering.specs.Reading.{accepted, wattHours}
 use Rattle.metering.specs.Energy.{adding, taking}
 use Rattle.metering.specs.declared.WattHours.the-variants.{Rounded}
@@ -15,10 +16,6 @@ use Rattle.metering.proofs.read_meter.Tie as tie
 
 first-refused : (a b : Bool) → a ≡ false → (a && b) ≡ false
 first-refused a b h = simp h
-
-second-refused : (a b : Bool) → b ≡ false → (a && b) ≡ false
-second-refused true b h = h
-second-refused false b h = refl
 
 -- What the calls gave, of the meter's own readings.
 adds-is : (c : tie.After-watt-hours) → let a = c .before .before .args in wattHours (a .direction) (adding (a .meter)) ≡ c .watt-hours .result
@@ -78,7 +75,7 @@ returns-2 c =
     let w = c .before .before in
     let a = earlier w .before .before .args in
     meter-refused (a .direction) (a .meter)
-    (second-refused (accepted (adding (a .meter))) (accepted (taking (a .meter)))
+    (second-fails (accepted (adding (a .meter))) (accepted (taking (a .meter)))
     (was-declined (opposite (a .direction)) (taking (a .meter)) (takes-is w ∙ c .enum-told2 .given .1)))
 
 runs-back-requires : tie.Need-runs-back-requires

@@ -69,23 +69,25 @@ enum-told c = search needs
 enum-told-2 : tie.Need-enum-told-2
 enum-told-2 c = search needs
 
+-- What is given within the limit, in the direction that an arm knows.
+within : (c : tie.After-round-both-ways) (dir : Direction) → c .round-both-ways .result .up ≤ limit → c .before .before .before .args .direction ≡ dir
+    → let a = c .before .before .before .args in
+    Rounded (divided dir (at (a .bits)) unit) ≡ wattHours (a .direction) (Single (ofBits binary32 (a .bits)))
+within c dir h e =
+    let a = c .before .before .before .args in
+    rounded (a .bits) (c .before .before .if1 .left) (c .before .if2 .left) dir
+    (subst (λ (x : Bounds). x .up ≤ limit) (c .round-both-ways .ensures) h)
+    ∙ ap (λ (d : Direction). wattHours d (Single (ofBits binary32 (a .bits)))) (sym e)
+
 returns-4 : tie.Need-returns-4
 returns-4 c =
     let r = c .before .before .before .before in
-    let a = r .before .before .before .args in
-    ap (λ (x : Bounds). Rounded (x .up)) (r .round-both-ways .ensures)
-    ∙ rounded (a .bits) (r .before .before .if1 .left) (r .before .if2 .left) Up
-    (subst (λ (x : Bounds). x .up ≤ limit) (r .round-both-ways .ensures) (c .before .before .if3 .left))
-    ∙ ap (λ (d : Direction). wattHours d (Single (ofBits binary32 (a .bits)))) (sym (c .enum-told .given .1))
+    ap (λ (x : Bounds). Rounded (x .up)) (r .round-both-ways .ensures) ∙ within r Up (c .before .before .if3 .left) (c .enum-told .given .1)
 
 returns-5 : tie.Need-returns-5
 returns-5 c =
     let r = c .before .before .before .before in
-    let a = r .before .before .before .args in
-    ap (λ (x : Bounds). Rounded (x .down)) (r .round-both-ways .ensures)
-    ∙ rounded (a .bits) (r .before .before .if1 .left) (r .before .if2 .left) Down
-    (subst (λ (x : Bounds). x .up ≤ limit) (r .round-both-ways .ensures) (c .before .before .if3 .left))
-    ∙ ap (λ (d : Direction). wattHours d (Single (ofBits binary32 (a .bits)))) (sym (c .enum-told2 .given .1))
+    ap (λ (x : Bounds). Rounded (x .down)) (r .round-both-ways .ensures) ∙ within r Down (c .before .before .if3 .left) (c .enum-told2 .given .1)
 
 pub register-watt-hours-spec : {M : Type 1} → statement M
 register-watt-hours-spec =

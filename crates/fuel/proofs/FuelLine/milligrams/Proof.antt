@@ -1,14 +1,10 @@
 -- `fuel::FuelLine::milligrams` meets its contract: within the limits the product fits. Assumes nothing.
 use borrow.Author.Needs.{needs}
-use mathlib.Core.Path.{_≡_, sym, ap, _∙_}
-use mathlib.Core.Bool.{true, false}
+use mathlib.Core.Path.{sym, ap, _∙_}
 use native.Mathlib.Omega.{arith}
-use Prim.Native.Nat.{ℕ, _*_, _≤_}
 use native.Mathlib.Nat.{mul-le-mul-right}
-use Rattle.rounding.specs.Divided.{divided}
-use Rattle.fuel.specs.Fuel.{withinLimits, exactMilligrams, roundedMilligrams, lineMilligrams}
-use Rattle.fuel.specs.declared.FuelLine.{FuelLine}
-use Rattle.fuel.specs.declared.Milligrams.the-variants.{Refused, Rounded}
+use Rattle.fuel.specs.Fuel.{exactMilligrams, roundedMilligrams, lineMilligrams}
+use Rattle.fuel.specs.declared.Milligrams.the-variants.{Rounded}
 use Rattle.fuel.proofs.Fuel.{Limits, limits, product-bound}
 use Rattle.fuel.proofs.FuelLine.milligrams.Statement.{statement}
 use Rattle.fuel.proofs.FuelLine.milligrams.Tie as tie

@@ -3,10 +3,11 @@ use borrow.Author.Needs.{needs}
 use mathlib.Core.Path.{_≡_, sym, ap, _∙_, subst}
 use mathlib.Core.Bool.{Bool, true, _&&_}
 use lib.Dec.{ltb}
+use Rattle.rounding.proofs.Tests.{and-both}
 use Rattle.metering.specs.Reading.{exact, accepted}
 use Rattle.metering.specs.Energy.{firstOf, lastOf}
 use Rattle.metering.specs.declared.Interval.{Interval}
-use Rattle.metering.proofs.Energy.{and-true, counts-order}
+use Rattle.metering.proofs.Energy.{counts-order}
 use Rattle.metering.proofs.Meter.runs_back.Statement.{statement}
 use Rattle.metering.proofs.Meter.runs_back.Tie as tie
 
@@ -22,7 +23,7 @@ enum-known-interval-2 c = search needs
 run-back-requires : tie.Need-run-back-requires
 run-back-requires c κs =
     let i = c .before .interval2 .given .1 in
-    and-true _ _ (subst (λ (x : Interval). (accepted (firstOf x) && accepted (lastOf x)) ≡ true) i (c .before .before .before .pre))
+    and-both _ _ (subst (λ (x : Interval). (accepted (firstOf x) && accepted (lastOf x)) ≡ true) i (c .before .before .before .pre))
 
 returns : tie.Need-returns
 returns c =
