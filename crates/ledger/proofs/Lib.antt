@@ -4,3 +4,4 @@ pub mod Lists
 pub mod Sides
 pub mod Figures
 pub mod Demand3
+pub mod Examples

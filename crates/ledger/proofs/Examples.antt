@@ -1,0 +1,400 @@
+-- Lists of calls with their answers, by computation: demand 3 has reports to speak of, its constants cannot be smaller, and the rules are
+-- told from others that its inequalities would allow. Assumes nothing.
+use Prim.Native.Nat.{ℕ, _+_, _*_, _<_, _≤_}
+use mathlib.Core.Path.{_≡_, refl, sym, ap, subst, _∙_}
+use mathlib.Core.Bool.{Bool, true, false, cond}
+use mathlib.Core.List.{List, [], _∷_}
+use native.Mathlib.Omega.{arith}
+use lib.Dec.{lit<, lit≤}
+use lib.IntN.{pos, negsuc}
+use lib.Ieee.{binary32, ofBits}
+use lib.ListN.{length, getD, take}
+use Rattle.rounding.specs.Divided.{divided, sum}
+use Rattle.rounding.specs.Ratio.{Ratio, _÷_, whole, integer, _≤ᵣ_, _+ᵣ_, _per_, sumᵣ}
+use Rattle.rounding.specs.Calls.{afterCalls, answers}
+use Rattle.metering.specs.Reading.{exactRegister, isReadableRegister}
+use Rattle.metering.specs.Energy.{exactEnergy, roundedAdding, roundedTaking, every, some, judgedReadings, judgedMeters, settledEnergy}
+use Rattle.metering.specs.declared.Sign.{Sign}
+use Rattle.metering.specs.declared.Sign.the-variants.{Plus, Minus}
+use Rattle.metering.specs.declared.Interval.the-variants.{Counts, Singles}
+use Rattle.metering.specs.declared.Meter.{Meter}
+use Rattle.fuel.specs.Fuel.{withinLimits, exactMilligrams, roundedMilligrams}
+use Rattle.fuel.specs.declared.FuelLine.{FuelLine}
+use Rattle.emissions.specs.Outcome.{Outcome, refused, given}
+use Rattle.emissions.specs.Factor.{combined, captive, margin, exactMargin, gridDefault, captiveFactor, exactCaptive, factorOf, exactFactorOf, chosen}
+use Rattle.emissions.specs.Loss.{lossOf}
+use Rattle.emissions.specs.Figure.{energyWithLosses, gramsOf, exactGrams, figureOf}
+use Rattle.emissions.specs.declared.GridKind.the-variants.{Thermal}
+use Rattle.emissions.specs.declared.Grid.the-variants.{Entered}
+use Rattle.emissions.specs.declared.Side.{Side}
+use Rattle.emissions.specs.declared.Side.the-variants.{Project, Leakage, Baseline}
+use Rattle.emissions.specs.declared.Supply.{Supply}
+use Rattle.emissions.specs.declared.Supply.the-variants.{Combined, GridDefault, Captive, CaptiveDefault, Either}
+use Rattle.emissions.specs.declared.Loss.{Loss}
+use Rattle.emissions.specs.declared.Loss.the-variants.{Nothing, Measured, Default20, Default3}
+use Rattle.emissions.proofs.Factors.{GridSound}
+use Rattle.ledger.specs.Judging.{gridJudged, linesOf, allWithinLimits, plantJudged, metersOf, sourceJudged, dropJudged}
+use Rattle.ledger.specs.Report.{Books, standing, those, consumption, plantMilligrams, exactPlant, plantsAt, siteOf, sourcesOf, sourceFigure, Figured, Figures, declined, figured, figuresFrom, ofSide, SideReport, sideReport, Report, reduction, reportFrom, Reply, ok, refusedWith, refusedAt, reported, damaged, allFit, replyFrom, reportOf}
+use Rattle.ledger.specs.Standing.{Call, enterGrid, enterPlant, enterSource, dropPlant, dropSource, report, Standing, nothing, after, energyOf, books, acknowledged, answer}
+use Rattle.ledger.specs.Exact.{exactFigure, gap, figuresOf, exactSide, exactReduction}
+use Rattle.ledger.specs.Operations.{noPlant, noSource, newLedger, step, allIntact, intact, reply}
+use Rattle.ledger.specs.Claim.{ReportSafe}
+use Rattle.ledger.specs.declared.Plant.{Plant}
+use Rattle.ledger.specs.declared.SourceEntry.{SourceEntry}
+use Rattle.ledger.specs.declared.Ledger.{Ledger}
+use Rattle.ledger.proofs.Demand3.{claim-at, records-show}
+
+-- ---- how calls and answers are written here
+
+-- A whole meter, and a single meter by the bits of its registers.
+abbrev pub counts : Sign → ℕ → ℕ → Meter
+counts s f l = record { sign = s; interval = Counts f l }
+
+abbrev pub singles : Sign → ℕ → ℕ → Meter
+singles s f l = record { sign = s; interval = Singles record { first = ofBits binary32 f; last = ofBits binary32 l } }
+
+-- A source with two meters, and with one.
+abbrev pub source2 : Side → Supply → Loss → Meter → Meter → SourceEntry
+source2 side supply loss m k =
+    record { side = side; supply = supply; loss = loss; meters = m ∷ k ∷ counts Plus 0 0 ∷ counts Plus 0 0 ∷ []; count = 2 }
+
+abbrev pub source : Side → Supply → Loss → Meter → SourceEntry
+source side supply loss m =
+    record { side = side; supply = supply; loss = loss; meters = m ∷ counts Plus 0 0 ∷ counts Plus 0 0 ∷ counts Plus 0 0 ∷ []; count = 1 }
+
+-- A source of so many watt-hours from captive plants, on the default factor.
+abbrev pub captiveSource : Side → ℕ → SourceEntry
+captiveSource side E = source side CaptiveDefault Nothing (counts Plus 0 E)
+
+abbrev pub fuel : ℕ → ℕ → ℕ → FuelLine
+fuel q v c = record { quantity = q; ncv = v; factor = c }
+
+-- A plant with two fuel lines.
+abbrev pub plant : ℕ → ℕ → FuelLine → FuelLine → Plant
+plant S G l k = record { site = S; generation = G; lines = l ∷ k ∷ fuel 0 0 0 ∷ fuel 0 0 0 ∷ []; count = 2 }
+
+abbrev pub thermal : ℕ → Call
+thermal F = enterGrid (record { margin = F; kind = Thermal })
+
+-- A side's tonnes, grams and sources.
+abbrev pub totals : ℕ → ℕ → ℕ → SideReport
+totals t g n = record { tonnes = t; grams = g; sources = n }
+
+-- A side where nothing stands.
+abbrev pub zeros : SideReport
+zeros = totals 0 0 0
+
+-- The answers to a list of calls from a new ledger. `unfolding run` opens what they compute by.
+unfoldable pub run : List Call → List Reply
+unfolding answers step reply newLedger noPlant noSource answer intact allIntact gridJudged linesOf allWithinLimits plantJudged metersOf sourceJudged dropJudged withinLimits exactMilligrams roundedMilligrams judgedMeters judgedReadings every some roundedAdding roundedTaking settledEnergy sum divided exactRegister isReadableRegister ofBits standing those consumption plantMilligrams plantsAt siteOf sourceFigure figuresFrom ofSide sideReport reduction reportFrom reportOf margin gridDefault captiveFactor factorOf chosen lossOf energyWithLosses gramsOf figureOf
+run calls = answers step reply newLedger calls
+
+-- What stands after a list of calls. `unfolding stands` opens what its exact values compute by.
+unfoldable pub stands : List Call → Standing
+unfolding afterCalls after run energyOf exactEnergy exactMargin exactPlant sumᵣ exactCaptive exactFactorOf exactGrams exactFigure gap exactSide
+stands calls = afterCalls after nothing calls
+
+-- ---- all three sides stand, and the report is given
+
+abbrev pub threeSides : List Call
+threeSides =
+    thermal 812400
+    ∷ enterPlant 2 (plant 1 4000 (fuel 1000 43000 74100) (fuel 333 1501 77))
+    ∷ enterSource 0 (source2 Project (Either 1) Default20 (counts Plus 0 2000001) (singles Minus 0x42f6e979 0x42f6e97a))
+    ∷ enterSource 4 (source Leakage CaptiveDefault Nothing (singles Plus 0x3f800001 0x43f6e979))
+    ∷ enterSource 7 (source Baseline GridDefault Default3 (counts Plus 0 9000007))
+    ∷ enterSource 9 (source Project (Captive 1) Nothing (counts Plus 5 700000))
+    ∷ enterSource 31 (source2 Baseline Combined (Measured 777) (counts Plus 100 2000003) (counts Minus 0 1))
+    ∷ report
+    ∷ []
+
+abbrev pub threeSidesReport : Report
+threeSidesReport =
+    record { project = totals 3 2507369 2; leakage = totals 1 640673 1; baseline = totals 5 5458962 2; reduction = pos 1 }
+
+pub three-sides : run threeSides ≡ ok ∷ ok ∷ ok ∷ ok ∷ ok ∷ ok ∷ ok ∷ reported threeSidesReport ∷ []
+unfolding run
+three-sides = refl
+
+-- So demand 3 says of this report that it is safe.
+pub three-sides-safe : ReportSafe (afterCalls after nothing (take 7 threeSides)) threeSidesReport
+unfolding run
+three-sides-safe = claim-at threeSides 7 (lit< tt) report ok .safe threeSidesReport refl
+
+-- ---- griddefault: not open where P = B, and open where one is greater by a watt-hour
+
+abbrev pub comparing : ℕ → ℕ → List Call
+comparing P B =
+    thermal 600000
+    ∷ enterSource 3 (source Project GridDefault (Measured 0) (counts Plus 0 P))
+    ∷ enterSource 8 (source Baseline Combined (Measured 0) (counts Plus 0 B))
+    ∷ report
+    ∷ []
+
+pub equal-refused : run (comparing 1000000 1000000) ≡ ok ∷ ok ∷ ok ∷ refusedAt 11 3 ∷ []
+unfolding run
+equal-refused = refl
+
+pub project-greater : run (comparing 1000001 1000000)
+    ≡ ok ∷ ok ∷ ok ∷ reported (record { project = totals 2 1300002 1; leakage = zeros; baseline = totals 0 600000 1; reduction = negsuc 1 }) ∷ []
+unfolding run
+project-greater = refl
+
+pub baseline-greater : run (comparing 1000000 1000001)
+    ≡ ok ∷ ok ∷ ok ∷ reported (record { project = totals 1 400000 1; leakage = zeros; baseline = totals 0 600000 1; reduction = negsuc 0 }) ∷ []
+unfolding run
+baseline-greater = refl
+
+-- ---- either: the greater factor for project, the smaller for baseline
+
+-- A source of 1,000 kWh, so that its grams are its factor. The captive factor is 600,000.000001: 600,001 up, 600,000 down.
+abbrev pub choosing : Side → ℕ → List Call
+choosing side F =
+    thermal F
+    ∷ enterPlant 0 (plant 0 1000 (fuel 1000 60000 10000) (fuel 1 1 1))
+    ∷ enterSource 0 (source side (Either 0) (Measured 0) (counts Plus 0 1000000))
+    ∷ report
+    ∷ []
+
+abbrev pub projectGrams : ℕ → List Reply
+projectGrams g = ok ∷ ok ∷ ok ∷ reported (record { project = totals 1 g 1; leakage = zeros; baseline = zeros; reduction = negsuc 0 }) ∷ []
+
+abbrev pub baselineGrams : ℕ → List Reply
+baselineGrams g = ok ∷ ok ∷ ok ∷ reported (record { project = zeros; leakage = zeros; baseline = totals 0 g 1; reduction = pos 0 }) ∷ []
+
+pub project-takes-captive : run (choosing Project 500000) ≡ projectGrams 600001
+unfolding run
+project-takes-captive = refl
+
+pub project-takes-combined : run (choosing Project 700000) ≡ projectGrams 700000
+unfolding run
+project-takes-combined = refl
+
+pub baseline-takes-combined : run (choosing Baseline 500000) ≡ baselineGrams 500000
+unfolding run
+baseline-takes-combined = refl
+
+pub baseline-takes-captive : run (choosing Baseline 700000) ≡ baselineGrams 600000
+unfolding run
+baseline-takes-captive = refl
+
+-- x is n ÷ d, by cross-multiplying.
+abbrev pub Is : Ratio → ℕ → ℕ → Type 0
+Is x n d = (x .plus * d ≡ n * x .over) × (x .minus ≡ 0)
+
+-- "of two equal factors under either, combined": the exact figure is 600,001 g, where captive would give 600,000.000001 g. One milligram less
+-- in the margin, and it is captive.
+pub equal-takes-combined : Is (exactSide (stands (choosing Project 600001)) Project) 600001 1000000
+unfolding stands
+equal-takes-combined = (refl, refl)
+
+pub greater-takes-captive : Is (exactSide (stands (choosing Project 600000)) Project) 600000000001 1000000000000
+unfolding stands
+greater-takes-captive = (refl, refl)
+
+-- ---- what stands
+
+-- A dropped source counts no more, and a second drop finds nothing.
+pub dropped : run (
+    enterSource 1 (captiveSource Project 1000000)
+    ∷ enterSource 6 (captiveSource Project 1000000)
+    ∷ enterSource 9 (captiveSource Leakage 1000000)
+    ∷ dropSource 6
+    ∷ dropSource 6
+    ∷ report
+    ∷ []
+    )
+    ≡ ok ∷ ok ∷ ok ∷ ok ∷ refusedWith 7
+    ∷ reported (record { project = totals 2 1300000 1; leakage = totals 2 1300000 1; baseline = zeros; reduction = negsuc 3 }) ∷ []
+unfolding run
+dropped = refl
+
+-- The last accepted entry under a number counts, on its own side; a refused one replaces nothing.
+pub replaced : run (
+    enterSource 5 (captiveSource Project 1000000)
+    ∷ enterSource 5 (captiveSource Project 3000000)
+    ∷ enterSource 5 (source Project CaptiveDefault (Measured 0) (counts Plus 0 9000000))
+    ∷ report
+    ∷ enterSource 5 (captiveSource Baseline 1000000)
+    ∷ report
+    ∷ []
+    )
+    ≡ ok ∷ ok ∷ refusedWith 5
+    ∷ reported (record { project = totals 4 3900000 1; leakage = zeros; baseline = zeros; reduction = negsuc 3 })
+    ∷ ok
+    ∷ reported (record { project = zeros; leakage = zeros; baseline = totals 0 400000 1; reduction = pos 0 }) ∷ []
+unfolding run
+replaced = refl
+
+-- ---- "Each number is tested over all meters before the next"
+
+-- The first meter runs back, 4, and the second's last register is not a number, 3: 3 comes first, and 4 before 5.
+pub three-before-four : run (
+    enterSource 5 (source2 Project Combined Nothing (counts Plus 7 6) (singles Plus 0x3f800000 0x7fc00000))
+    ∷ enterSource 5 (source2 Project Combined Nothing (counts Plus 7 6) (singles Plus 0x3f800000 0x3f800000))
+    ∷ []
+    )
+    ≡ refusedWith 3 ∷ refusedWith 4 ∷ []
+unfolding run
+three-before-four = refl
+
+-- ---- an exact value below zero
+
+-- A + meter at rest, and a - meter that moved by less than a watt-hour.
+abbrev pub creeping : SourceEntry
+creeping = source2 Project Combined (Measured 0) (counts Plus 1000 1000) (singles Minus 0x3f800000 0x3f800001)
+
+abbrev pub creepingCalls : List Call
+creepingCalls = thermal 1000000 ∷ enterSource 0 creeping ∷ report ∷ []
+
+-- E is 0 and the report says 0 tonnes, where the exact energy and the exact value of the side are below zero.
+pub exact-below-zero : (energyOf creeping ≡ 0)
+    × (exactEnergy (metersOf creeping) .plus < exactEnergy (metersOf creeping) .minus)
+    × (exactSide (stands creepingCalls) Project .plus < exactSide (stands creepingCalls) Project .minus)
+    × (run creepingCalls ≡ ok ∷ ok ∷ reported (record { project = totals 0 0 1; leakage = zeros; baseline = zeros; reduction = pos 0 }) ∷ [])
+unfolding stands
+exact-below-zero = (refl, lit< tt, lit< tt, refl)
+
+-- ---- the constants of demand 3 cannot be 12 for 13, 10 for 11, 150 for 200 or 2 for 3
+
+-- Four meters of two readings, each reading nearly a watt-hour off: E is 9, where the exact energy is about 1.
+abbrev pub eightReadings : List Call
+eightReadings =
+    let m = singles Plus 0x3a83126e 0x3a83126f in
+    thermal 10000000
+    ∷ enterSource 0 (record { side = Project; supply = Combined; loss = Measured 5000; meters = m ∷ m ∷ m ∷ singles Plus 0x3a83126e 0x3b03126f ∷ []; count = 4 })
+    ∷ report
+    ∷ []
+
+abbrev pub eightReadingsFigure : Figured
+eightReadingsFigure =
+    record { number = 0; side = Project; figure = record { choice = combined; loss = 5000; factor = 10000000; energy = 14; grams = 140 } }
+
+-- The gap, 124.99 g, against 121.00 g.
+pub not-12 : (figuresOf (stands eightReadings) ≡ eightReadingsFigure ∷ [])
+    × (whole 1 +ᵣ ((whole (12 * (10000000 + 2)) +ᵣ (11 * 14) ÷ 10) per 1000000) ≤ᵣ gap (stands eightReadings) eightReadingsFigure)
+unfolding stands
+not-12 = (refl, lit≤ tt)
+
+-- 32 fuel lines, each nearly a milligram off, over 1,000 kWh: the captive factor is 999,691 up and 999,689 down, where the exact one is about
+-- 999,689.97, and either takes it on every side. Each side's grams are next to a whole tonne, on its worse side.
+abbrev pub plantOf : FuelLine → Plant
+plantOf l = record { site = 0; generation = 125; lines = fuel 1 1 1 ∷ fuel 1 1 1 ∷ fuel 1 1 1 ∷ l ∷ []; count = 4 }
+
+abbrev pub largeSource : Side → ℕ → SourceEntry
+largeSource side E = source side (Either 0) (Measured 5000) (counts Plus 0 E)
+
+abbrev pub manyLines : List Call
+manyLines =
+    thermal 999690
+    ∷ enterPlant 0 (plantOf (fuel 1 1 1))
+    ∷ enterPlant 1 (plantOf (fuel 1 1 1))
+    ∷ enterPlant 2 (plantOf (fuel 1 1 1))
+    ∷ enterPlant 3 (plantOf (fuel 1 1 1))
+    ∷ enterPlant 4 (plantOf (fuel 1 1 1))
+    ∷ enterPlant 5 (plantOf (fuel 1 1 1))
+    ∷ enterPlant 6 (plantOf (fuel 1 1 1))
+    ∷ enterPlant 7 (plantOf (fuel 99959001 10001 1))
+    ∷ enterSource 0 (largeSource Project 99999566534)
+    ∷ enterSource 1 (largeSource Leakage 99999566534)
+    ∷ enterSource 2 (largeSource Baseline 99999766594)
+    ∷ report
+    ∷ []
+
+abbrev pub manyLinesFigure : ℕ → Side → Figured
+manyLinesFigure n side =
+    record {
+      number = n;
+      side = side;
+      figure = record { choice = captive 0; loss = 5000; factor = 999691; energy = 149999349801; grams = 149953000002 };
+    }
+
+pub many-lines : (figuresOf (stands manyLines)
+    ≡ manyLinesFigure 0 Project
+    ∷ manyLinesFigure 1 Leakage
+    ∷ record { number = 2; side = Baseline; figure = record { choice = captive 0; loss = 5000; factor = 999689; energy = 149999649891; grams = 149952999999 } }
+    ∷ [])
+    × (reportOf (books (stands manyLines))
+    ≡ reported (record { project = totals 149954 149953000002 1; leakage = totals 149954 149953000002 1; baseline = totals 149952 149952999999 1; reduction = negsuc 149955 }))
+unfolding stands
+many-lines = (refl, refl)
+
+-- The gap, 154,644 g, against 150,014 g, and against 150 kilograms.
+pub not-10 : whole 1 +ᵣ ((whole (13 * (999691 + 2)) +ᵣ (10 * 149999349801) ÷ 10) per 1000000) ≤ᵣ gap (stands manyLines) (manyLinesFigure 0 Project)
+unfolding stands
+not-10 = lit≤ tt
+
+pub not-150-a-gap : whole 150000 ≤ᵣ gap (stands manyLines) (manyLinesFigure 0 Project)
+unfolding stands
+not-150-a-gap = lit≤ tt
+
+-- A side of one source, 1.1546 t off, against 1.15 t; the reduction over three sources, 3.4546 t off, against 3.45 t.
+pub not-150-a-side : exactSide (stands manyLines) Project +ᵣ (1000 + 150 * 1) ÷ 1000 ≤ᵣ whole 149954
+unfolding stands
+not-150-a-side = lit≤ tt
+
+pub not-150-a-reduction : integer (negsuc 149955) +ᵣ (3000 + 150 * 3) ÷ 1000 ≤ᵣ exactReduction (stands manyLines)
+unfolding stands exactReduction
+not-150-a-reduction = lit≤ tt
+
+-- 1 g, 1 g and 999,999 g: each side nearly a tonne off, and the reduction nearly three.
+abbrev pub nearTonnes : List Call
+nearTonnes =
+    thermal 1000000
+    ∷ enterSource 0 (source Project Combined (Measured 0) (counts Plus 0 1))
+    ∷ enterSource 1 (source Leakage Combined (Measured 0) (counts Plus 0 1))
+    ∷ enterSource 2 (source Baseline Combined (Measured 0) (counts Plus 0 999999))
+    ∷ report
+    ∷ []
+
+pub not-2-tonnes : (run nearTonnes
+    ≡ ok ∷ ok ∷ ok ∷ ok
+    ∷ reported (record { project = totals 1 1 1; leakage = totals 1 1 1; baseline = totals 0 999999 1; reduction = negsuc 1 }) ∷ [])
+    × (integer (negsuc 1) +ᵣ (2000 + 200 * 3) ÷ 1000 ≤ᵣ exactReduction (stands nearTonnes))
+unfolding stands exactReduction
+not-2-tonnes = (refl, lit≤ tt)
+
+pub not-0-tonnes : exactSide (stands nearTonnes) Project +ᵣ (200 * 1) ÷ 1000 ≤ᵣ whole 1
+unfolding stands
+not-0-tonnes = lit≤ tt
+
+-- ---- `damaged`
+
+report-never-damaged : (x : Figures) → replyFrom x ≡ damaged → ⊥
+report-never-damaged (declined n k) e = let z : _≡_ {A = ℕ} 0 1 = cc in omega arith
+report-never-damaged (figured fs) e = go (allFit (reportFrom fs)) e
+  where
+    go : (t : Bool) → cond t (reported (reportFrom fs)) (refusedWith 13) ≡ damaged → ⊥
+    go true e = let z : _≡_ {A = ℕ} 0 1 = cc in omega arith
+    go false e = let z : _≡_ {A = ℕ} 0 1 = cc in omega arith
+
+entry-never-damaged : {A : Type 0} (o : Outcome A) → acknowledged o ≡ damaged → ⊥
+entry-never-damaged (refused n) e = let z : _≡_ {A = ℕ} 0 1 = cc in omega arith
+entry-never-damaged (given a) e = let z : _≡_ {A = ℕ} 0 1 = cc in omega arith
+
+answer-never-damaged : (b : Books) (c : Call) → answer b c ≡ damaged → ⊥
+unfolding answer reportOf
+answer-never-damaged b (enterGrid g) e = entry-never-damaged (gridJudged g) e
+answer-never-damaged b (enterPlant n p) e = entry-never-damaged (plantJudged n p) e
+answer-never-damaged b (enterSource n a) e = entry-never-damaged (sourceJudged n a) e
+answer-never-damaged b (dropPlant n) e = entry-never-damaged (dropJudged 7 (b .plant) n) e
+answer-never-damaged b (dropSource n) e = entry-never-damaged (dropJudged 31 (b .source) n) e
+answer-never-damaged b report e = report-never-damaged (figuresFrom b (sourcesOf b)) e
+
+-- No list of calls from a new ledger is answered so at any place.
+pub never-damaged : (calls : List Call) (i : ℕ) → i < length calls → getD (answers step reply newLedger calls) i ok ≡ damaged → ⊥
+never-damaged calls i h e = answer-never-damaged _ _ (sym (claim-at calls i h report ok .answered) ∙ e)
+
+-- A ledger whose grid has a margin above the limit is answered so, and no list of calls leaves it.
+abbrev pub damagedLedger : Ledger
+damagedLedger = record { grid = Entered (record { margin = 10000001; kind = Thermal }); plants = newLedger .plants; sources = newLedger .sources }
+
+pub is-damaged : reply damagedLedger report ≡ damaged
+unfolding run
+is-damaged = refl
+
+pub no-calls-leave-it : (calls : List Call) → afterCalls step newLedger calls ≡ damagedLedger → ⊥
+no-calls-leave-it calls e =
+    let h = records-show calls in
+    let k : 10000001 ≤ 10000000 = subst GridSound (sym (ap (λ (b : Books). b .grid) (h .same)) ∙ ap (λ (l : Ledger). l .grid) e) (h .accepted .grid) in
+    omega arith
