@@ -13,7 +13,7 @@ use Rattle.rounding.specs.declared.Direction.the-variants.{Up, Down}
 use Rattle.rounding.proofs.Divided.{rounds}
 use Rattle.rounding.proofs.Ratio.{Within, within-divided, whole-conservative, conservative-widen}
 use Rattle.emissions.specs.Outcome.{Outcome, refused, given}
-use Rattle.emissions.specs.Factor.{factorLimit, isEntered, margin, exactMargin, lowDefault, gridDefault, Site, captiveFactor, exactCaptive, captiveDefault, prefersCaptive, Choice, combined, default, captive, factorOf, exactFactorOf, withPlants, chosen}
+use Rattle.emissions.specs.Factor.{factorLimit, isEntered, margin, exactMargin, lowDefault, gridDefault, Site, captiveFactor, exactCaptive, captiveDefault, prefersCaptive, Choice, combined, default, captive, factorOf, exactFactorOf, captiveJudged, atSite, chosen}
 use Rattle.emissions.specs.declared.Supply.{Supply}
 use Rattle.emissions.specs.declared.Supply.the-variants.{Combined, GridDefault, Captive, CaptiveDefault, Either}
 use Rattle.emissions.specs.declared.GridKind.{GridKind}
@@ -52,6 +52,7 @@ margin-sound dir Absent hg h = absurd (true≢false (sym h))
 margin-sound dir (Entered g) hg h = whole-sound dir (g .margin) hg
 
 low-limit : (grid : Grid) → lowDefault grid ≤ factorLimit
+unfolding lowDefault
 low-limit Absent = omega arith
 low-limit (Entered g) = go (g .kind)
   where
@@ -109,12 +110,13 @@ module _ (dir : Direction) (grid : Grid) (site : ℕ → Site) (c : Consumption)
         limit = leb-true _ _ l;
       }
 
-  -- What the tests before a captive factor leave.
-  plants-held : {A : Type 0} {a : A} (S : ℕ) (o : Outcome A) → withPlants dir (site S) o ≡ given a → Sound (captive S) × (o ≡ given a)
-  plants-held S o e =
+  -- What the tests of a captive factor leave.
+  at-site-sound : (S F : ℕ) → atSite dir (site S) ≡ given F → Sound (captive S)
+  unfolding captiveJudged captiveFactor
+  at-site-sound S F e =
       let p = test-held 9 (leb 1000 (site S .generation)) _ e in
-      let q = test-held 10 (leb (captiveFactor dir (site S)) factorLimit) o (p .1) in
-      (captive-sound S (p .0) (q .0), q .1)
+      let q = test-held 10 (leb (captiveFactor dir (site S)) factorLimit) _ (p .1) in
+      captive-sound S (p .0) (q .0)
 
   pub chosen-sound : (s : Supply) (ch : Choice) → chosen dir grid site c s ≡ given ch → Sound ch
   unfolding chosen
@@ -126,13 +128,13 @@ module _ (dir : Direction) (grid : Grid) (site : ℕ → Site) (c : Consumption)
       let q = then-given (gridDefault grid c) (λ F. given (default F)) (p .1) in
       subst Sound (given-is (q .2)) (default-sound (q .0) (default-limit grid c (q .0) (q .1)))
   chosen-sound (Captive S) ch e =
-      let p = plants-held S (given (captive S)) e in
-      subst Sound (given-is (p .1)) (p .0)
+      let p = then-given (atSite dir (site S)) (λ F. given (captive S)) e in
+      subst Sound (given-is (p .2)) (at-site-sound S (p .0) (p .1))
   chosen-sound CaptiveDefault ch e = subst Sound (given-is e) (default-sound (captiveDefault dir) (captive-default-limit dir))
   chosen-sound (Either S) ch e =
       let p = test-held 8 (isEntered grid) _ e in
-      let q = plants-held S _ (p .1) in
-      either (prefersCaptive dir (margin dir grid) (captiveFactor dir (site S))) (p .0) (q .0) (q .1)
+      let q = then-given (atSite dir (site S)) _ (p .1) in
+      either (prefersCaptive dir (margin dir grid) (q .0)) (p .0) (at-site-sound S (q .0) (q .1)) (q .2)
     where
       either : (t : Bool) → isEntered grid ≡ true → Sound (captive S) → given (cond t (captive S) combined) ≡ given ch → Sound ch
       either true h k r = subst Sound (given-is r) k

@@ -46,7 +46,7 @@ exactMargin (Entered g) = whole (g .margin)
 -- ---- griddefault
 
 -- "F is 400,000 (grid marked thermal) or 250,000 (marked hydro)".
-abbrev pub lowDefault : Grid → ℕ
+unfoldable pub lowDefault : Grid → ℕ
 lowDefault Absent = 0
 lowDefault (Entered g) = ofKind (g .kind)
   where
@@ -62,6 +62,14 @@ gridDefault grid c =
     (cond (eqb (c .projects) 0 || ltb (c .project) (c .baseline)) (given (lowDefault grid)) (refused 11))
 
 -- ---- captive
+
+-- "9 captive or either: generation at the site below 1,000 kWh (no plant counts as 0). 10 its rounded captive factor above 10,000,000." The
+-- factor is that of so many milligrams over so many kWh.
+unfoldable pub captiveJudged : Direction → ℕ → ℕ → Outcome ℕ
+captiveJudged dir milligrams generation =
+    refuseUnless 9 (leb 1000 generation)
+    (refuseUnless 10 (leb (divided dir milligrams generation) factorLimit)
+    (given (divided dir milligrams generation)))
 
 -- The captive plants of a site: the sum of their fuel lines' milligrams, each line rounded, the exact sum, and the summed generation in kWh.
 pub record Site : Type 0 where
@@ -110,17 +118,16 @@ exactFactorOf grid site (captive S) = exactCaptive (site S)
 abbrev pub withGrid : {A : Type 0} → Grid → Outcome A → Outcome A
 withGrid grid o = refuseUnless 8 (isEntered grid) o
 
--- "9 captive or either: generation at the site below 1,000 kWh (no plant counts as 0). 10 its rounded captive factor above 10,000,000."
-abbrev pub withPlants : {A : Type 0} → Direction → Site → Outcome A → Outcome A
-withPlants dir s o = refuseUnless 9 (leb 1000 (s .generation)) (refuseUnless 10 (leb (captiveFactor dir s) factorLimit) o)
+-- The rounded captive factor of a site, or the refusal.
+abbrev pub atSite : Direction → Site → Outcome ℕ
+atSite dir s = captiveJudged dir (s .milligrams dir) (s .generation)
 
 -- The option of a supply, or the refusal.
 unfoldable pub chosen : Direction → Grid → (ℕ → Site) → Consumption → Supply → Outcome Choice
 chosen dir grid site c Combined = withGrid grid (given combined)
 chosen dir grid site c GridDefault = withGrid grid (andThen (gridDefault grid c) (λ F. given (default F)))
-chosen dir grid site c (Captive S) = withPlants dir (site S) (given (captive S))
+chosen dir grid site c (Captive S) = andThen (atSite dir (site S)) (λ F. given (captive S))
 chosen dir grid site c CaptiveDefault = given (default (captiveDefault dir))
 chosen dir grid site c (Either S) =
     withGrid grid
-    (withPlants dir (site S)
-    (given (cond (prefersCaptive dir (margin dir grid) (captiveFactor dir (site S))) (captive S) combined)))
+    (andThen (atSite dir (site S)) (λ F. given (cond (prefersCaptive dir (margin dir grid) F) (captive S) combined)))

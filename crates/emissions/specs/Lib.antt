@@ -2,3 +2,4 @@ pub mod Outcome
 pub mod Factor
 pub mod Loss
 pub mod Figure
+pub mod Answers

@@ -93,3 +93,12 @@ judgedMeters dir count ms = cond (leb 1 count && leb count 4) (judgedReadings di
 unfoldable pub settledEnergy : ℕ → ℕ → EnergyJudged
 settledEnergy adds takes =
     cond (leb takes adds && leb adds (takes + limit)) (energyJudged.Accepted (adds - takes)) (energyJudged.Refused 6)
+
+-- The number of a refusal; 0 where nothing was refused.
+abbrev pub metersRefusal : MetersJudged → ℕ
+metersRefusal (metersJudged.Refused n) = n
+metersRefusal (metersJudged.Read adds takes) = 0
+
+abbrev pub energyRefusal : EnergyJudged → ℕ
+energyRefusal (energyJudged.Refused n) = n
+energyRefusal (energyJudged.Accepted E) = 0

@@ -16,6 +16,8 @@ ghost use Rattle.metering.specs.Energy.{
   runsBack,
   judgedMeters,
   settledEnergy,
+  metersRefusal,
+  energyRefusal,
 };
 ghost use Rattle.metering.specs.Steps.{magnitude, roundedBothWays, meterRead, metersRead};
 use rounding::Direction;
@@ -71,6 +73,30 @@ pub enum MetersJudged {
 pub enum EnergyJudged {
     Refused(u8),
     Accepted(u64),
+}
+
+impl MetersJudged {
+    // The number of the refusal, 0 where the meters were read.
+    pub fn refusal(self) -> u8
+        ensures { λ r. ⌜ r ≡ metersRefusal self ⌝ }
+    {
+        match self {
+            MetersJudged::Refused(number) => number,
+            MetersJudged::Read(_, _) => 0,
+        }
+    }
+}
+
+impl EnergyJudged {
+    // The number of the refusal, 0 where the energy was accepted.
+    pub fn refusal(self) -> u8
+        ensures { λ r. ⌜ r ≡ energyRefusal self ⌝ }
+    {
+        match self {
+            EnergyJudged::Refused(number) => number,
+            EnergyJudged::Accepted(_) => 0,
+        }
+    }
 }
 
 // The register with this bit pattern. Every NaN pattern gives a NaN.
