@@ -5,3 +5,4 @@ pub mod Sides
 pub mod Figures
 pub mod Demand3
 pub mod Examples
+pub mod Judged

@@ -4,3 +4,4 @@ pub mod Standing
 pub mod Exact
 pub mod Operations
 pub mod Claim
+pub mod Answers

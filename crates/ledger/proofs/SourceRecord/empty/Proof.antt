@@ -1,0 +1,12 @@
+-- `ledger::SourceRecord::empty` meets its contract: it is the empty record. Assumes nothing.
+use mathlib.Core.Path.{refl}
+use Rattle.ledger.specs.Operations.{noSource}
+use Rattle.ledger.proofs.SourceRecord.empty.Statement.{statement}
+use Rattle.ledger.proofs.SourceRecord.empty.Tie as tie
+
+returns : tie.Need-returns
+unfolding noSource
+returns c = refl
+
+pub empty-spec : {M : Type 1} → statement M
+empty-spec = tie.close (tie.spec returns)
