@@ -6,3 +6,4 @@ pub mod Figures
 pub mod Demand3
 pub mod Examples
 pub mod Judged
+pub mod Bench

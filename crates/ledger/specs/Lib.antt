@@ -5,3 +5,4 @@ pub mod Exact
 pub mod Operations
 pub mod Claim
 pub mod Answers
+pub mod Bench

@@ -2,5 +2,4 @@ pub mod Patterns
 pub mod Shifts
 pub mod Readings
 pub mod Energy
-pub mod Table
 pub mod Examples

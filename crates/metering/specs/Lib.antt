@@ -1,4 +1,3 @@
 pub mod Reading
 pub mod Energy
 pub mod Steps
-pub mod Table
