@@ -28,7 +28,7 @@ use Rattle.emissions.proofs.Figures.{figure-conservative, figure-within-allowan
 use Rattle.ledger.specs.Judging.{metersOf, kept}
 use Rattle.ledger.specs.Report.{Numbered, sourcesOf, plantsOf, consumption, comparesFactor, comparesLoss, siteOf, sourceFigure, Figured, Figures, declined, figured, withFigure, figuresFrom, sideIndex, ofSide, gramsIn, sideReport, Report, reportFrom, refusedWith, refusedAt, reported, allFit, replyFrom, reportOf}
 use Rattle.ledger.specs.Standing.{Standing, energyOf, keptOf, books}
-use Rattle.ledger.specs.Exact.{exactEnergyOf, exactFigure, gap, listOf, figuresOf, exactSide, exactReduction, sideAllowance}
+use Rattle.ledger.specs.Exact.{figuredAt, exactEnergyOf, exactFigure, gap, listOf, figuresOf, exactSide, exactReduction, sideAllowance}
 use Rattle.ledger.specs.Claim.{SourceSafe, SideSafe, ReportSafe}
 use Rattle.ledger.specs.declared.Plant.{Plant}
 use Rattle.ledger.specs.declared.SourceEntry.{SourceEntry}
@@ -49,9 +49,6 @@ pub record FiguredSafe (s : Standing) (f : Figured) : Type 0 where
   pub fraction : 0 < exactFigure s f .over
   pub near : Conservative (direction (f .side)) (f .figure .grams) (exactFigure s f) (gapLimit (f .figure .factor) (f .figure .energy))
   pub small : Conservative (direction (f .side)) (f .figure .grams) (exactFigure s f) (whole 200000)
-
-abbrev pub figuredAt : ℕ → SourceEntry → Figure → Figured
-figuredAt n e f = record { number = n; side = e .side; figure = f }
 
 energy-over : (e : SourceEntry) → 0 < exactEnergy (metersOf e) .over
 unfolding exactEnergy

@@ -13,7 +13,7 @@ use Rattle.emissions.specs.declared.Side.the-variants.{Project, Leakage, Baseli
 use Rattle.ledger.specs.Judging.{kept}
 use Rattle.ledger.specs.Report.{Books, Figured, SideReport, Report, Reply, reported, sourceFigure}
 use Rattle.ledger.specs.Standing.{Call, Standing, nothing, after, energyOf, books, answer}
-use Rattle.ledger.specs.Exact.{exactFigure, gap, exactSide, exactReduction, sideAllowance, reductionAllowance}
+use Rattle.ledger.specs.Exact.{figuredAt, exactFigure, gap, exactSide, exactReduction, sideAllowance, reductionAllowance}
 use Rattle.ledger.specs.Operations.{newLedger, step, reply}
 use Rattle.ledger.specs.declared.SourceEntry.{SourceEntry}
 
@@ -21,10 +21,10 @@ use Rattle.ledger.specs.declared.SourceEntry.{SourceEntry}
 -- 1 + (13 × (F + 2) + 11 × U ÷ 10) ÷ 1,000,000 grams, "hence below 200 kilograms".
 pub record SourceSafe (s : Standing) (n : ℕ) (e : SourceEntry) (f : Figure) : Type 0 where
   pub counted : sourceFigure (books s) (kept e (energyOf e)) ≡ given f
-  pub fraction : 0 < exactFigure s (record { number = n; side = e .side; figure = f }) .over
-  pub safe : Conservative (direction (e .side)) (f .grams) (exactFigure s (record { number = n; side = e .side; figure = f })) (gapLimit (f .factor) (f .energy))
-  pub gapBelow : gap s (record { number = n; side = e .side; figure = f }) <ᵣ gapLimit (f .factor) (f .energy)
-  pub gapSmall : gap s (record { number = n; side = e .side; figure = f }) <ᵣ whole 200000
+  pub fraction : 0 < exactFigure s (figuredAt n e f) .over
+  pub safe : Conservative (direction (e .side)) (f .grams) (exactFigure s (figuredAt n e f)) (gapLimit (f .factor) (f .energy))
+  pub gapBelow : gap s (figuredAt n e f) <ᵣ gapLimit (f .factor) (f .energy)
+  pub gapSmall : gap s (figuredAt n e f) <ᵣ whole 200000
 
 -- A side's tonnes stand on the safe side of its exact value, off by less than 1 tonne and 200 kilograms for each of its sources.
 pub record SideSafe (s : Standing) (side : Side) (r : SideReport) : Type 0 where

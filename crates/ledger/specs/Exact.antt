@@ -5,7 +5,7 @@ use mathlib.Core.Option.{Option, none, some}
 use Rattle.rounding.specs.Ratio.{Ratio, _÷_, whole, _-ᵣ_, _per_, sumᵣ, distance}
 use Rattle.metering.specs.Energy.{exactEnergy}
 use Rattle.emissions.specs.Factor.{exactFactorOf}
-use Rattle.emissions.specs.Figure.{exactGrams}
+use Rattle.emissions.specs.Figure.{Figure, exactGrams}
 use Rattle.emissions.specs.declared.Side.{Side}
 use Rattle.emissions.specs.declared.Side.the-variants.{Project, Leakage, Baseline}
 use Rattle.ledger.specs.Judging.{metersOf}
@@ -17,6 +17,10 @@ use Rattle.ledger.specs.declared.SourceEntry.{SourceEntry}
 abbrev pub exactEnergyOf : Option SourceEntry → Ratio
 exactEnergyOf none = whole 0
 exactEnergyOf (some e) = exactEnergy (metersOf e)
+
+-- The figure f of the source that stands under the number n with the entry e.
+abbrev pub figuredAt : ℕ → SourceEntry → Figure → Figured
+figuredAt n e f = record { number = n; side = e .side; figure = f }
 
 -- "The exact figure of a source is its figure with e for E, unrounded quotients and the same chosen options (of two equal factors under
 -- either, combined), and rounds nowhere".
