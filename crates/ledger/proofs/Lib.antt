@@ -7,3 +7,7 @@ pub mod Demand3
 pub mod Examples
 pub mod Judged
 pub mod Bench
+pub mod Intact
+pub mod Signed
+pub mod Walks
+pub mod Totals

@@ -6,3 +6,4 @@ pub mod Operations
 pub mod Claim
 pub mod Answers
 pub mod Bench
+pub mod Steps

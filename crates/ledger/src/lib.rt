@@ -1,5 +1,7 @@
 // The ledger: the grid, captive plants and metered sources that stand, and the report on them
 // (document 01, "The ledger and its exact value" and "How each operation declines").
+pub mod report;
+
 ghost use mathlib.Core.Path.{_≡_};
 ghost use mathlib.Core.Bool.{true};
 ghost use Prim.Native.Nat.{_≤_};
