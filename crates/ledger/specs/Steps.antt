@@ -1,7 +1,7 @@
 -- What the steps inside the report answer. Only their own contracts cite these; the rules are in `Report`.
 use Prim.Native.Nat.{ℕ, _+_, _*_, _≤_}
 use mathlib.Core.Bool.{Bool, true, false, cond}
-use mathlib.Core.List.{List, [], _∷_, map}
+use mathlib.Core.List.{List, map}
 use mathlib.Core.Option.{Option, none, some}
 use lib.Dec.{eqb}
 use lib.ListN.{getD, length}
@@ -10,7 +10,7 @@ use lib.IntN.{ℤ}
 use Rattle.rounding.specs.declared.Direction.{Direction}
 use Rattle.rounding.specs.declared.Direction.the-variants.{Up, Down}
 use Rattle.emissions.specs.Outcome.{Outcome, refused, given, andThen}
-use Rattle.emissions.specs.Factor.{direction, margin, Site, prefersCaptive, withGrid, atSite, chosen, factorOf}
+use Rattle.emissions.specs.Factor.{direction, margin, prefersCaptive, withGrid, atSite, chosen, factorOf}
 use Rattle.emissions.specs.Loss.{lossOf}
 use Rattle.emissions.specs.Figure as figure
 use Rattle.emissions.specs.declared.Consumption.{Consumption}
@@ -18,7 +18,7 @@ use Rattle.emissions.specs.declared.Grid.{Grid}
 use Rattle.emissions.specs.declared.Side.{Side}
 use Rattle.emissions.specs.declared.Side.the-variants.{Project, Leakage, Baseline}
 use Rattle.emissions.specs.declared.Supply.{Supply}
-use Rattle.ledger.specs.Report.{Numbered, standing, consumption, comparesFactor, comparesLoss, siteOf, Figured, Figures, declined, figured, gramsIn, ofSide, Books, allFit, Reply, refusedWith, refusedAt, reported, damaged}
+use Rattle.ledger.specs.Report.{Numbered, standing, consumption, comparesFactor, comparesLoss, plantMilligrams, siteOf, Figured, Figures, declined, figured, gramsIn, ofSide, Books, allFit, Reply, refusedWith, refusedAt, reported, damaged}
 use Rattle.ledger.specs.Report as report
 use Rattle.ledger.specs.Operations.{noPlant, noSource, plantIn, sourceIn}
 use Rattle.ledger.specs.declared.Plant.{Plant}
@@ -26,6 +26,7 @@ use Rattle.ledger.specs.declared.Source.{Source}
 use Rattle.ledger.specs.declared.PlantRecord.{PlantRecord}
 use Rattle.ledger.specs.declared.SourceRecord.{SourceRecord}
 use Rattle.ledger.specs.declared.report.Totals.{Totals}
+use Rattle.ledger.specs.declared.report.SiteSums.{SiteSums}
 use Rattle.ledger.specs.declared.report.FigureJudged.{FigureJudged}
 use Rattle.ledger.specs.declared.report.FigureJudged.the-variants as figureJudged
 use Rattle.ledger.specs.declared.report.Figure.{Figure}
@@ -91,6 +92,10 @@ generated p = p .generation
 abbrev pub addedAt : ℕ → (Plant → ℕ) → Option Plant → ℕ
 addedAt S f none = 0
 addedAt S f (some p) = cond (eqb (p .site) S) (f p) 0
+
+-- A site's sums with what stands under one more number.
+abbrev pub siteWith : ℕ → Direction → SiteSums → Option Plant → SiteSums
+siteWith S dir s o = record { milligrams = s .milligrams + addedAt S (plantMilligrams dir) o; generation = s .generation + addedAt S generated o }
 
 -- The factor of a supply: that of the option chosen for it.
 abbrev pub factorAt : Direction → Grid → List (Numbered Plant) → Consumption → Supply → Outcome ℕ

@@ -2,14 +2,14 @@
 // given a ledger whose records meet the limits of accepted entries: `Ledger::report` looks first.
 ghost use mathlib.Core.Path.{_≡_};
 ghost use mathlib.Core.Bool.{true};
-ghost use Prim.Native.Nat.{_+_, _≤_, _<_};
+ghost use Prim.Native.Nat.{_+_, _*_, _≤_, _<_};
 ghost use Rattle.emissions.specs.Answers.{factorMeaning};
 ghost use Rattle.emissions.specs.Factor.{direction, captiveJudged};
 ghost use Rattle.ledger.specs.Report.{comparesFactor, comparesLoss, plantMilligrams, siteOf, figuresFrom, sourcesOf, reportOf};
 ghost use Rattle.ledger.specs.Operations.{plantIn, sourceIn, plantIntact, sourceIntact, gridIntact, allIntact, reply};
 ghost use Rattle.ledger.specs.Standing.{report};
 ghost use mathlib.Core.Option.{some};
-ghost use Rattle.ledger.specs.Steps.{plantPlace, sourcePlace, sitePlants, share, joined, Small, totalsWith, totalsOf, generated, addedAt, factorAt, eitherAt, figureAt, parts, figureMeaning, FigureWithin, figureRefusal, noSums, withGrams, Bounded, walkedOf, booksOf, sideMeaning, sideFrom, reductionOf, reportedOf, reportMeaning};
+ghost use Rattle.ledger.specs.Steps.{plantPlace, sourcePlace, sitePlants, share, joined, Small, totalsWith, totalsOf, siteWith, factorAt, eitherAt, figureAt, parts, figureMeaning, FigureWithin, figureRefusal, noSums, withGrams, Bounded, walkedOf, booksOf, sideMeaning, sideFrom, reductionOf, reportedOf, reportMeaning};
 use crate::Answer;
 use crate::Ledger;
 use crate::Plant;
@@ -30,6 +30,12 @@ use rounding::Direction;
 pub struct Totals {
     pub factor: Consumption,
     pub loss: Consumption,
+}
+
+// The milligrams and the generation, in kWh, of plants at a site.
+struct SiteSums {
+    milligrams: u64,
+    generation: u64,
 }
 
 // The figure of a source: its emission factor F, its energy with losses U and its grams.
@@ -225,64 +231,40 @@ fn plant_milligrams(plant: Plant, direction: Direction) -> u64
     sum
 }
 
-// What a record adds to the milligrams of a site.
-fn milligrams_at(held: PlantRecord, site: u8, direction: Direction) -> u64
-    requires { ⌜ plantIntact (plantIn held) ≡ true ⌝ }
-    ensures { λ r. ⌜ (r ≡ addedAt site (plantMilligrams direction) (plantIn held)) × (r ≤ 12000000000000000) ⌝ }
+// The sums with what a record shows.
+fn with_plant(sums: SiteSums, held: PlantRecord, site: u8, direction: Direction) -> SiteSums
+    requires { ⌜ (sums .milligrams ≤ 7 * 12000000000000000) × (sums .generation ≤ 7 * 100000000) × (plantIntact (plantIn held) ≡ true) ⌝ }
+    ensures { λ r. ⌜ (r ≡ siteWith site direction sums (plantIn held)) × (r .milligrams ≤ sums .milligrams + 12000000000000000) × (r .generation ≤ sums .generation + 100000000) ⌝ }
 {
     if held.stands {
         let plant = held.plant;
         if plant.site == site {
-            return plant_milligrams(plant, direction);
+            return SiteSums {
+                milligrams: sums.milligrams + plant_milligrams(plant, direction),
+                generation: sums.generation + plant.generation as u64,
+            };
         }
-        return 0;
+        return sums;
     }
-    0
+    sums
 }
 
-// The milligrams of the plants at a site.
-fn site_milligrams(plants: [PlantRecord; 8], site: u8, direction: Direction) -> u64
+// The milligrams and the generation of the plants at a site, in one pass.
+fn site_sums(plants: [PlantRecord; 8], site: u8, direction: Direction) -> SiteSums
     requires { ⌜ allIntact plantIntact (plantPlace plants) 8 ≡ true ⌝ }
-    ensures { λ r. ⌜ r ≡ siteOf (sitePlants plants) site .milligrams direction ⌝ }
+    ensures { λ r. ⌜ (r .milligrams ≡ siteOf (sitePlants plants) site .milligrams direction) × (r .generation ≡ siteOf (sitePlants plants) site .generation) ⌝ }
 {
-    let mut sum: u64 = 0;
+    let mut sums = SiteSums {
+        milligrams: 0,
+        generation: 0,
+    };
     let mut i = 0;
     while i < 8 {
         let held = plants[i];
-        sum += milligrams_at(held, site, direction);
+        sums = with_plant(sums, held, site, direction);
         i += 1;
     }
-    sum
-}
-
-// What a record adds to the generation of a site, in kWh.
-fn generation_at(held: PlantRecord, site: u8) -> u64
-    requires { ⌜ plantIntact (plantIn held) ≡ true ⌝ }
-    ensures { λ r. ⌜ (r ≡ addedAt site generated (plantIn held)) × (r ≤ 100000000) ⌝ }
-{
-    if held.stands {
-        let plant = held.plant;
-        if plant.site == site {
-            return plant.generation as u64;
-        }
-        return 0;
-    }
-    0
-}
-
-// The generation of the plants at a site, in kWh.
-fn site_generation(plants: [PlantRecord; 8], site: u8) -> u64
-    requires { ⌜ allIntact plantIntact (plantPlace plants) 8 ≡ true ⌝ }
-    ensures { λ r. ⌜ r ≡ siteOf (sitePlants plants) site .generation ⌝ }
-{
-    let mut sum: u64 = 0;
-    let mut i = 0;
-    while i < 8 {
-        let held = plants[i];
-        sum += generation_at(held, site);
-        i += 1;
-    }
-    sum
+    sums
 }
 
 // The captive factor of a site in a direction, or refusal 9 or 10.
@@ -290,11 +272,8 @@ fn site_factor(plants: [PlantRecord; 8], site: u8, direction: Direction) -> Fact
     requires { ⌜ allIntact plantIntact (plantPlace plants) 8 ≡ true ⌝ }
     ensures { λ r. ⌜ factorMeaning r ≡ captiveJudged direction (siteOf (sitePlants plants) site .milligrams direction) (siteOf (sitePlants plants) site .generation) ⌝ }
 {
-    emissions::captive_factor(
-        direction,
-        site_milligrams(plants, site, direction),
-        site_generation(plants, site),
-    )
+    let sums = site_sums(plants, site, direction);
+    emissions::captive_factor(direction, sums.milligrams, sums.generation)
 }
 
 // The factor of an either supply: the grid's and the site's are both asked for, in this order.

@@ -3,17 +3,16 @@ use borrow.Author.Needs.{needs}
 use Rattle.ledger.proofs.report.site_factor.Statement.{statement}
 use Rattle.ledger.proofs.report.site_factor.Tie as tie
 
-site-milligrams-requires : tie.Need-site-milligrams-requires
-site-milligrams-requires c κs = search needs
-
-site-generation-requires : tie.Need-site-generation-requires
-site-generation-requires c κs = search needs
+site-sums-requires : tie.Need-site-sums-requires
+site-sums-requires c κs = search needs
 
 captive-factor-requires : tie.Need-captive-factor-requires
 captive-factor-requires c κs = search needs
 
 returns : tie.Need-returns
-returns c = rw (← (c .before .before .site-milligrams .ensures), ← (c .before .site-generation .ensures)) (c .captive-factor .ensures)
+returns c =
+    let e = c .before .site-sums .ensures in
+    rw (← (e .0), ← (e .1)) (c .captive-factor .ensures)
 
 pub site-factor-spec : {M : Type 1} → statement M
-site-factor-spec = tie.close (tie.spec site-milligrams-requires site-generation-requires captive-factor-requires returns)
+site-factor-spec = tie.close (tie.spec site-sums-requires captive-factor-requires returns)
