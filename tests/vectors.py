@@ -3,19 +3,21 @@
     vectors.py          writes stdin and stdout of each crate of vectors
     vectors.py --check  compares those files with what it would write
 
-A vector is a line of stdin and a line of stdout. Its fields are numbers of 64
-bits, each written as 16 hexadecimal digits, as the crate `vectors` reads them.
+A vector is a line of stdin and its answer in stdout, a line or more. Its fields
+are numbers of 64 bits, each written as 16 hexadecimal digits, as the crate
+`vectors` reads them.
 """
 
 import random
 import struct
 import sys
 from fractions import Fraction
-from itertools import permutations, product
+from itertools import islice, permutations, product
 from pathlib import Path
 from typing import NamedTuple
 
 from counterexamples import register_above
+from ledger_vectors import call_vectors
 import reference
 from reference import Meter
 
@@ -340,10 +342,18 @@ def source_vectors() -> list[Vector]:
     return [source_vector(*case) for case in cases]
 
 
-# 5. The files
+# 5. Calls on the ledger: operation, and up to 23 arguments
+
+
+def ledger_vectors() -> list[Vector]:
+    return [Vector(*call) for call in call_vectors(Numbers(5))]
+
+
+# 6. The files
 
 VECTORS = {'rounding_vectors': rounding_vectors, 'fuel_vectors': fuel_vectors,
-           'reading_vectors': reading_vectors, 'source_vectors': source_vectors}
+           'reading_vectors': reading_vectors, 'source_vectors': source_vectors,
+           'ledger_vectors': ledger_vectors}
 
 
 def files_of(vectors: list[Vector]) -> dict[str, list[str]]:
@@ -354,12 +364,16 @@ def files_of(vectors: list[Vector]) -> dict[str, list[str]]:
 
 
 def vectors_of(crate: str) -> list[Vector]:
-    """Each vector once."""
-    return list(dict.fromkeys(VECTORS[crate]()))
+    """Each vector once, save calls, whose answers go by the calls before."""
+    vectors = VECTORS[crate]()
+    return vectors if crate == 'ledger_vectors' else list(dict.fromkeys(vectors))
 
 
-def kept_lines(path: Path) -> list[str]:
-    return path.read_text().splitlines(keepends=True) if path.exists() else []
+def kept_lines(path: Path, expected: list[str]) -> list[str]:
+    """The file's lines, joined where an expected answer has several."""
+    lines = iter(path.read_text().splitlines(keepends=True) if path.exists() else [])
+    kept = [''.join(islice(lines, text.count('\n'))) for text in expected]
+    return [text for text in kept if text] + list(lines)
 
 
 def write():
@@ -372,7 +386,7 @@ def check() -> int:
     passed = failed = 0
     for crate in VECTORS:
         lines = files_of(vectors_of(crate))
-        kept = {name: kept_lines(CRATES / crate / name) for name in lines}
+        kept = {name: kept_lines(CRATES / crate / name, lines[name]) for name in lines}
         differing = [name for name in lines if kept[name] != lines[name]]
         for name in differing:
             print(f'crates/{crate}/{name} differs')

@@ -1,0 +1,316 @@
+// Makes the calls of each vector on the ledger that the call before left. The fields of a call are its
+// operation and its arguments:
+//   0  a new ledger
+//   1  grid entry: margin, thermal (0) or hydro (1)
+//   2  plant entry: number, site, generation, count, and Q, V and C of four fuel lines
+//   3  source entry: number, side, supply, site, loss, measured loss, count, and the sign, + (0) or - (1),
+//      the kind, whole (0) or single (1), and the first and last reading of four meters
+//   4  drop of a plant: number
+//   5  drop of a source: number
+//   6  report
+// Sides, supplies and losses are counted from 0 as their enums list them. The others store a record as no
+// call does, then report:
+//   7  a grid entry, as 1
+//   8  a plant, as 2 and whether it stands
+//   9  a source, as 3 up to the measured loss, whether it stands, and its energy
+ghost use Prim.Native.Nat.{_≤_};
+use emissions::Grid;
+use emissions::GridEntry;
+use emissions::GridKind;
+use emissions::Loss;
+use emissions::Side;
+use emissions::Supply;
+use fuel::FuelLine;
+use ledger::Answer;
+use ledger::Entered;
+use ledger::Ledger;
+use ledger::Plant;
+use ledger::PlantRecord;
+use ledger::Source;
+use ledger::SourceEntry;
+use ledger::SourceRecord;
+use ledger::report::Report;
+use ledger::report::Reported;
+use ledger::report::SideReport;
+use libc::STDOUT_FILENO;
+use metering::Interval;
+use metering::Meter;
+use metering::Registers;
+use metering::Sign;
+
+fn field_u8(line: &[u8], i: usize) -> u8 {
+    (vectors::field(line, i) % 0x100) as u8
+}
+
+fn field_u16(line: &[u8], i: usize) -> u16 {
+    (vectors::field(line, i) % 0x1_0000) as u16
+}
+
+fn grid_entry(line: &[u8]) -> GridEntry {
+    let margin = vectors::field_u32(line, 1);
+    let kind = if vectors::field(line, 2) == 0 {
+        GridKind::Thermal
+    } else {
+        GridKind::Hydro
+    };
+    GridEntry { margin, kind }
+}
+
+// The fuel line whose quantity is the field i.
+fn fuel_line(line: &[u8], i: usize) -> FuelLine
+    requires { ⌜ i ≤ 14 ⌝ }
+{
+    FuelLine {
+        quantity: vectors::field_u32(line, i),
+        ncv: vectors::field_u32(line, i + 1),
+        factor: vectors::field_u32(line, i + 2),
+    }
+}
+
+fn plant(line: &[u8]) -> Plant {
+    Plant {
+        site: field_u8(line, 2),
+        generation: vectors::field_u32(line, 3),
+        lines: [
+            fuel_line(line, 5),
+            fuel_line(line, 8),
+            fuel_line(line, 11),
+            fuel_line(line, 14),
+        ],
+        count: field_u8(line, 4),
+    }
+}
+
+fn side(line: &[u8]) -> Side {
+    match vectors::field(line, 2) {
+        0 => Side::Project,
+        1 => Side::Leakage,
+        _ => Side::Baseline,
+    }
+}
+
+fn supply(line: &[u8]) -> Supply {
+    let site = field_u8(line, 4);
+    match vectors::field(line, 3) {
+        0 => Supply::Combined,
+        1 => Supply::GridDefault,
+        2 => Supply::Captive(site),
+        3 => Supply::CaptiveDefault,
+        _ => Supply::Either(site),
+    }
+}
+
+fn loss(line: &[u8]) -> Loss {
+    let measured = field_u16(line, 6);
+    match vectors::field(line, 5) {
+        0 => Loss::Nothing,
+        1 => Loss::Measured(measured),
+        2 => Loss::Default20,
+        _ => Loss::Default3,
+    }
+}
+
+fn sign(line: &[u8], i: usize) -> Sign {
+    if vectors::field(line, i) == 0 {
+        return Sign::Plus;
+    }
+    Sign::Minus
+}
+
+// The interval whose kind is the field i.
+fn interval(line: &[u8], i: usize) -> Interval
+    requires { ⌜ i ≤ 21 ⌝ }
+{
+    if vectors::field(line, i) == 0 {
+        return Interval::Counts(vectors::field(line, i + 1), vectors::field(line, i + 2));
+    }
+    Interval::Singles(Registers {
+        first: metering::register(vectors::field_u32(line, i + 1)),
+        last: metering::register(vectors::field_u32(line, i + 2)),
+    })
+}
+
+// The meter whose sign is the field i.
+fn meter(line: &[u8], i: usize) -> Meter
+    requires { ⌜ i ≤ 20 ⌝ }
+{
+    Meter {
+        sign: sign(line, i),
+        interval: interval(line, i + 1),
+    }
+}
+
+fn source_entry(line: &[u8]) -> SourceEntry {
+    SourceEntry {
+        side: side(line),
+        supply: supply(line),
+        loss: loss(line),
+        meters: [
+            meter(line, 8),
+            meter(line, 12),
+            meter(line, 16),
+            meter(line, 20),
+        ],
+        count: field_u8(line, 7),
+    }
+}
+
+// The ledger with a grid entry, whatever its margin.
+fn with_grid(ledger: Ledger, entry: GridEntry) -> Ledger {
+    let plants = ledger.plants;
+    let sources = ledger.sources;
+    Ledger {
+        grid: Grid::Entered(entry),
+        plants,
+        sources,
+    }
+}
+
+// The ledger with a plant in its place, whatever it holds.
+fn with_plant(mut ledger: Ledger, line: &[u8]) -> Ledger {
+    let at = (vectors::field(line, 1) % 8) as usize;
+    ledger.plants[at] = PlantRecord {
+        stands: vectors::field(line, 17) != 0,
+        plant: plant(line),
+    };
+    ledger
+}
+
+// The ledger with a source in its place, whatever it holds.
+fn with_source(mut ledger: Ledger, line: &[u8]) -> Ledger {
+    let at = (vectors::field(line, 1) % 32) as usize;
+    ledger.sources[at] = SourceRecord {
+        stands: vectors::field(line, 7) != 0,
+        source: Source {
+            side: side(line),
+            supply: supply(line),
+            loss: loss(line),
+            energy: vectors::field(line, 8),
+        },
+    };
+    ledger
+}
+
+// Answers an entry or a drop, and hands on the ledger that it left.
+fn answered(entered: Entered) -> Ledger {
+    let answer = entered.answer;
+    match answer {
+        Answer::Accepted => {
+            io::write_all(STDOUT_FILENO, b"ok\n");
+        }
+        Answer::Refused(number) => {
+            vectors::write_refused(number);
+        }
+    }
+    entered.ledger
+}
+
+fn write_side(name: &[u8], side: SideReport) {
+    io::write_all(STDOUT_FILENO, name);
+    io::print_decimal(STDOUT_FILENO, side.tonnes);
+    io::write_all(STDOUT_FILENO, b" ");
+    io::print_decimal(STDOUT_FILENO, side.grams);
+    io::write_all(STDOUT_FILENO, b" ");
+    vectors::write_number(side.sources as u64);
+}
+
+// The magnitude of a number. The smallest has no opposite in its own type.
+fn magnitude(number: i64) -> u64 {
+    if number < 0 {
+        return (-1 - number) as u64 + 1;
+    }
+    number as u64
+}
+
+fn write_signed(number: i64) {
+    if number < 0 {
+        io::write_all(STDOUT_FILENO, b"-");
+    }
+    vectors::write_number(magnitude(number));
+}
+
+fn write_report(report: Report) {
+    write_side(b"project ", report.project);
+    write_side(b"leakage ", report.leakage);
+    write_side(b"baseline ", report.baseline);
+    io::write_all(STDOUT_FILENO, b"reduction ");
+    write_signed(report.reduction);
+}
+
+// Answers a report, and hands on the ledger, which a report does not change.
+fn reported(ledger: Ledger) -> Ledger {
+    let reported = ledger.report();
+    match reported {
+        Reported::Damaged => {
+            io::write_all(STDOUT_FILENO, b"damaged\n");
+        }
+        Reported::Refused(number) => {
+            vectors::write_refused(number);
+        }
+        Reported::RefusedAt(number, source) => {
+            io::write_all(STDOUT_FILENO, b"refused ");
+            io::print_decimal(STDOUT_FILENO, number as u64);
+            io::write_all(STDOUT_FILENO, b" source ");
+            vectors::write_number(source as u64);
+        }
+        Reported::Given(report) => {
+            write_report(report);
+        }
+    }
+    ledger
+}
+
+fn new_ledger() -> Ledger {
+    io::write_all(STDOUT_FILENO, b"ok\n");
+    Ledger::new()
+}
+
+// Makes a call, answers it, and hands on the ledger that it left.
+fn called(ledger: Ledger, line: &[u8]) -> Ledger {
+    let number = field_u8(line, 1);
+    match vectors::field(line, 0) {
+        0 => new_ledger(),
+        1 => answered(ledger.enter_grid(grid_entry(line))),
+        2 => answered(ledger.enter_plant(number, plant(line))),
+        3 => answered(ledger.enter_source(number, source_entry(line))),
+        4 => answered(ledger.drop_plant(number)),
+        5 => answered(ledger.drop_source(number)),
+        6 => reported(ledger),
+        7 => reported(with_grid(ledger, grid_entry(line))),
+        8 => reported(with_plant(ledger, line)),
+        _ => reported(with_source(ledger, line)),
+    }
+}
+
+// The ledger after a line's call, and whether there was a line.
+struct Turn {
+    ledger: Ledger,
+    read: bool,
+}
+
+fn next_turn(ledger: Ledger) -> Turn {
+    let mut line = [0u8; 408];
+    if vectors::read_line(&mut line) {
+        return Turn {
+            ledger: called(ledger, &line),
+            read: true,
+        };
+    }
+    Turn {
+        ledger,
+        read: false,
+    }
+}
+
+fn main() {
+    let mut last = Turn {
+        ledger: Ledger::new(),
+        read: true,
+    };
+    // Nothing says that the input ends, so the turns are counted down.
+    let mut turns = u64::MAX;
+    while turns > 0 && last.read {
+        last = next_turn(last.ledger);
+        turns -= 1;
+    }
+}

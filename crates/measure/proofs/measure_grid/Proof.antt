@@ -1,0 +1,78 @@
+-- `measure::measure_grid` is safe and ends. Assumes nothing.
+use Prim.Native.Nat.{_-_, _≤_}
+use borrow.Author.Needs.{needs}
+use Rattle.measure.proofs.measure_grid.Statement.{statement}
+use Rattle.measure.proofs.measure_grid.Tie as tie
+
+abbrev Inv-loop : tie.InvT-loop
+Inv-loop words times ledger₀ sum₀ i₀ ledger sum i = i ≤ times
+
+abbrev μ-loop : tie.MeasureT-loop
+μ-loop words times ledger₀ sum₀ i₀ ledger sum i = times - i
+
+full-requires : tie.Need-full-requires Inv-loop μ-loop
+full-requires c κs = search needs
+
+loop-holds : tie.Need-loop-holds Inv-loop μ-loop
+loop-holds c = search needs
+
+cast-word : tie.Need-cast-word Inv-loop μ-loop
+cast-word c = search needs
+
+word-requires : tie.Need-word-requires Inv-loop μ-loop
+word-requires c κs = search needs
+
+enter-grid-requires : tie.Need-enter-grid-requires Inv-loop μ-loop
+enter-grid-requires c κs = search needs
+
+cast-held : tie.Need-cast-held Inv-loop μ-loop
+cast-held c = search needs
+
+mul-held : tie.Need-mul-held Inv-loop μ-loop
+mul-held c = search needs
+
+element-copy-out-held : tie.Need-element-copy-out-held Inv-loop μ-loop
+element-copy-out-held c = search needs
+
+number-of-requires : tie.Need-number-of-requires Inv-loop μ-loop
+number-of-requires c κs = search needs
+
+folded-requires : tie.Need-folded-requires Inv-loop μ-loop
+folded-requires c κs = search needs
+
+folded-requires-2 : tie.Need-folded-requires-2 Inv-loop μ-loop
+folded-requires-2 c κs = search needs
+
+add-i : tie.Need-add-i Inv-loop μ-loop
+add-i c = search needs
+
+loop-less : tie.Need-loop-less Inv-loop μ-loop
+loop-less c = search needs
+
+loop-again : tie.Need-loop-again Inv-loop μ-loop
+loop-again c = search needs
+
+returns : tie.Need-returns Inv-loop μ-loop
+returns c = search needs
+
+pub measure-grid-spec : {M : Type 1} → statement M
+measure-grid-spec =
+    tie.close
+    (tie.spec
+    Inv-loop
+    μ-loop
+    full-requires
+    loop-holds
+    cast-word
+    word-requires
+    enter-grid-requires
+    cast-held
+    mul-held
+    element-copy-out-held
+    number-of-requires
+    folded-requires
+    folded-requires-2
+    add-i
+    loop-less
+    loop-again
+    returns)

@@ -1,0 +1,216 @@
+// The same arithmetic in plain C, as a programmer would write it by hand: the ledger behind a pointer,
+// no proofs. It answers as crates/measure does, and its instructions are counted beside those.
+#include <stdint.h>
+#include <stdbool.h>
+#include <string.h>
+
+enum side { PROJECT, LEAKAGE, BASELINE };
+enum supply_kind { COMBINED, GRID_DEFAULT, CAPTIVE, CAPTIVE_DEFAULT, EITHER };
+enum loss_kind { NOTHING, MEASURED, DEFAULT20, DEFAULT3 };
+
+struct fuel_line { uint32_t quantity, ncv, factor; };
+struct plant { bool stands; uint8_t site, count; uint32_t generation; struct fuel_line lines[4]; };
+struct source { bool stands; uint8_t side, supply, site, loss; uint16_t measured; uint64_t energy; };
+struct ledger { bool has_grid, hydro; uint32_t margin; struct plant plants[8]; struct source sources[32]; };
+struct meter { bool minus, single; uint32_t first, last; };
+struct consumption { uint64_t project, baseline; uint8_t projects, baselines; };
+
+static uint64_t divide(bool up, uint64_t n, uint64_t d) { return n / d + (up && n % d != 0); }
+
+// ---- source entry
+
+static const uint64_t LIMIT = 100000000000ull;
+
+static int reading(uint32_t bits, bool up, uint64_t *watt_hours) {
+    if (bits > 0x80000000u) return 3;
+    uint32_t field = (bits & 0x7fffffffu) >> 23, digits = bits & 0x7fffffu;
+    if (field > 153) return 3;
+    uint64_t count = (uint64_t)(field == 0 ? digits : digits | 0x800000u) * 8000;
+    uint32_t shift = field < 90 ? 63 : 153 - field;
+    uint64_t down = count >> shift, above = down + (down << shift != count);
+    if (above > LIMIT) return 3;
+    *watt_hours = up ? above : down;
+    return 0;
+}
+
+static int energy(const struct meter *meters, int count, bool up, uint64_t *result) {
+    if (count < 1 || count > 4) return 2;
+    uint64_t adds = 0, takes = 0;
+    bool back = false;
+    for (int i = 0; i < count; i++) {
+        uint64_t first, last;
+        bool plus = !meters[i].minus;
+        if (reading(meters[i].last, plus == up, &last) || reading(meters[i].first, plus != up, &first)) return 3;
+        back |= (meters[i].last & 0x7fffffffu) < (meters[i].first & 0x7fffffffu);
+        if (plus) adds += last, takes += first; else adds += first, takes += last;
+    }
+    if (back) return 4;
+    if (adds < takes || adds - takes > LIMIT) return 6;
+    *result = adds - takes;
+    return 0;
+}
+
+static bool carries_loss(uint8_t supply) { return supply != CAPTIVE && supply != CAPTIVE_DEFAULT; }
+
+static int enter_source(struct ledger *l, uint8_t number, struct source s, const struct meter *meters, int count) {
+    if (number > 31 || s.site > 3) return 1;
+    if (s.loss == MEASURED && s.measured > 5000) return 2;
+    int refused = energy(meters, count, s.side != BASELINE, &s.energy);
+    if (refused && refused != 6) return refused;
+    if (carries_loss(s.supply) == (s.loss == NOTHING)) return 5;
+    if (refused) return refused;
+    s.stands = true;
+    l->sources[number] = s;
+    return 0;
+}
+
+// ---- report
+
+static bool counts(const struct source *s, bool either) { return s->supply <= GRID_DEFAULT || (either && s->supply == EITHER); }
+
+static void add(struct consumption *c, const struct source *s) {
+    if (s->side == BASELINE) c->baseline += s->energy, c->baselines++; else c->project += s->energy, c->projects++;
+}
+
+static int captive_factor(const struct ledger *l, uint8_t site, bool up, uint64_t *factor) {
+    uint64_t milligrams = 0, generation = 0;
+    for (int i = 0; i < 8; i++) {
+        const struct plant *p = &l->plants[i];
+        if (!p->stands || p->site != site) continue;
+        generation += p->generation;
+        for (int j = 0; j < p->count; j++)
+            milligrams += divide(up, (uint64_t)p->lines[j].quantity * p->lines[j].ncv * p->lines[j].factor, 1000);
+    }
+    if (generation < 1000) return 9;
+    *factor = divide(up, milligrams, generation);
+    return *factor > 10000000 ? 10 : 0;
+}
+
+static int factor_of(const struct ledger *l, const struct source *s, const struct consumption *c, bool up, uint64_t *factor) {
+    if (s->supply != CAPTIVE && s->supply != CAPTIVE_DEFAULT && !l->has_grid) return 8;
+    uint64_t at_site;
+    int refused;
+    switch (s->supply) {
+    case COMBINED: *factor = l->margin; return 0;
+    case GRID_DEFAULT:
+        if (c->baselines == 0 || c->project > c->baseline) { *factor = 1300000; return 0; }
+        if (c->projects == 0 || c->baseline > c->project) { *factor = l->hydro ? 250000 : 400000; return 0; }
+        return 11;
+    case CAPTIVE: return captive_factor(l, s->site, up, factor);
+    case CAPTIVE_DEFAULT: *factor = up ? 1300000 : 400000; return 0;
+    default:
+        refused = captive_factor(l, s->site, up, &at_site);
+        if (refused) return refused;
+        *factor = (up ? at_site > l->margin : at_site < l->margin) ? at_site : l->margin;
+        return 0;
+    }
+}
+
+static int loss_of(const struct source *s, const struct consumption *c, bool up, uint64_t *loss) {
+    switch (s->loss) {
+    case NOTHING: *loss = 0; return 0;
+    case MEASURED: *loss = s->measured; return 0;
+    case DEFAULT20: *loss = 2000; return up || c->project > c->baseline ? 0 : 12;
+    default: *loss = 300; return !up || c->project < c->baseline ? 0 : 12;
+    }
+}
+
+static bool line_fits(const struct fuel_line *l) { return l->quantity <= 100000000 && l->ncv >= 1 && l->ncv <= 150000 && l->factor <= 200000; }
+
+// Whether the records meet the limits of accepted entries, which the proved report looks at too.
+static bool intact(const struct ledger *l) {
+    if (l->has_grid && l->margin > 10000000) return false;
+    for (int i = 0; i < 8; i++) {
+        const struct plant *p = &l->plants[i];
+        if (!p->stands) continue;
+        if (p->site > 3 || p->count > 4 || p->generation > 100000000) return false;
+        for (int j = 0; j < p->count; j++) if (!line_fits(&p->lines[j])) return false;
+    }
+    for (int i = 0; i < 32; i++) {
+        const struct source *s = &l->sources[i];
+        if (!s->stands) continue;
+        if (s->site > 3 || (s->loss == MEASURED && s->measured > 5000)) return false;
+        if (carries_loss(s->supply) == (s->loss == NOTHING) || s->energy > LIMIT) return false;
+    }
+    return true;
+}
+
+struct report { uint64_t tonnes[3], grams[3]; uint8_t sources[3]; int64_t reduction; };
+
+static int report_on(const struct ledger *l, struct report *r) {
+    struct consumption factor = {0, 0, 0, 0}, loss = {0, 0, 0, 0};
+    if (!intact(l)) return 1;
+    memset(r, 0, sizeof *r);
+    for (int i = 0; i < 32; i++) {
+        const struct source *s = &l->sources[i];
+        if (!s->stands) continue;
+        if (counts(s, false)) add(&factor, s);
+        if (counts(s, true)) add(&loss, s);
+    }
+    for (int i = 0; i < 32; i++) {
+        const struct source *s = &l->sources[i];
+        if (!s->stands) continue;
+        bool up = s->side != BASELINE;
+        uint64_t f, t;
+        int refused = factor_of(l, s, &factor, up, &f);
+        if (!refused) refused = loss_of(s, &loss, up, &t);
+        if (refused) return refused;
+        uint64_t with_losses = divide(up, s->energy * (10000 + t), 10000);
+        r->grams[s->side] += divide(up, with_losses * f, 1000000);
+        r->sources[s->side]++;
+    }
+    for (int side = 0; side < 3; side++) {
+        if (r->grams[side] > 1000000000000000ull) return 13;
+        r->tonnes[side] = divide(side != BASELINE, r->grams[side], 1000000);
+    }
+    r->reduction = (int64_t)r->tonnes[BASELINE] - (int64_t)r->tonnes[PROJECT] - (int64_t)r->tonnes[LEAKAGE];
+    return 0;
+}
+
+// ---- the ledgers and the loops of crates/measure
+
+static struct plant plant_of(uint32_t seed) {
+    struct fuel_line line = {1000 + seed % 1000, 43000, 74100};
+    struct plant p = {true, seed % 4, 4, 70000, {line, line, line, line}};
+    return p;
+}
+
+static struct source source_of(uint32_t seed) {
+    uint8_t supply = seed % 5, named = supply == CAPTIVE || supply == EITHER;
+    uint8_t loss = supply == CAPTIVE || supply == CAPTIVE_DEFAULT ? NOTHING : MEASURED;
+    struct source s = {true, seed % 3, supply, named ? seed % 4 : 0, loss, loss ? 500 : 0, 1000000 + seed};
+    return s;
+}
+
+uint64_t plain_source(uint32_t times, uint32_t first, uint32_t last) {
+    struct ledger l;
+    memset(&l, 0, sizeof l);
+    struct meter meter = {false, true, first, last}, meters[4] = {meter, meter, meter, meter};
+    struct source s = {false, PROJECT, COMBINED, 0, DEFAULT20, 0, 0};
+    uint64_t sum = 0;
+    for (uint32_t i = 0; i < times; i++) {
+        int answer = enter_source(&l, i % 32, s, meters, 4);
+        sum = (sum + answer + l.sources[i % 32].energy % 0x100000000ull) % 0x100000000ull;
+    }
+    return sum;
+}
+
+uint64_t plain_report(const uint32_t *words, uint32_t times) {
+    struct ledger l;
+    memset(&l, 0, sizeof l);
+    l.has_grid = true;
+    l.margin = words[0] % 10000000;
+    for (int i = 0; i < 8; i++) l.plants[i] = plant_of(words[1]);
+    for (int i = 0; i < 32; i++) l.sources[i] = source_of(words[2] % 0x10000);
+    uint64_t sum = 0;
+    for (uint32_t i = 0; i < times; i++) {
+        uint32_t number = i % 32;
+        l.plants[number % 8] = plant_of(number);
+        l.sources[number] = source_of(number);
+        struct report r;
+        int refused = report_on(&l, &r);
+        uint64_t grams = refused ? (uint64_t)refused : r.grams[0] % 0x100000000ull + r.grams[1] % 0x100000000ull + r.grams[2] % 0x100000000ull;
+        sum = (sum + grams) % 0x100000000ull;
+    }
+    return sum;
+}

@@ -1,0 +1,724 @@
+"""Lists of calls on the ledger, with the answers of the reference.
+
+vectors.py writes and checks them with the other vectors. A call is a vector of
+24 fields: its operation and its arguments, as the program ledger_vectors reads
+them. Unlike a line of text, a call always holds four fuel lines or meters beside
+their count, and its numbers go up to the last ones of their types.
+"""
+
+from collections import Counter
+from itertools import product
+
+import reference
+from generate import EQUAL_ENERGIES, LAST_REGISTER, SPECIAL_REGISTERS, SUPPLIES
+from reference import SIDES, FuelLine, Loss, Meter, Plant, Source, Supply
+
+FIELDS = 24
+(NEW, GRID, PLANT, SOURCE, DROP_PLANT, DROP_SOURCE, REPORT,
+ STORED_GRID, STORED_PLANT, STORED_SOURCE) = range(10)
+
+MARKS = ('thermal', 'hydro')
+LOSSES = ('none', 'loss', 'default20', 'default3')
+KINDS = ('whole', 'single')
+SIGNS = ('+', '-')
+
+LAST_U8 = 2**8 - 1
+LAST_U16 = 2**16 - 1
+LAST_U32 = 2**32 - 1
+LAST_U64 = 2**64 - 1
+LIMIT = reference.ENERGY_LIMIT_WH  # and the limit of a reading
+
+# What fills the places beyond the count: refused where it is read.
+NO_LINE = FuelLine(LAST_U32, 0, LAST_U32)
+NO_METER = Meter('single', '-', 0x7FC00000, LAST_U32)
+
+NONE, DEFAULT20, DEFAULT3 = Loss('none'), Loss('default20'), Loss('default3')
+COMBINED, GRID_DEFAULT = Supply('combined'), Supply('griddefault')
+CAPTIVE_DEFAULT = Supply('captivedefault')
+
+
+def captive(site: int) -> Supply:
+    return Supply('captive', site)
+
+
+def either(site: int) -> Supply:
+    return Supply('either', site)
+
+
+def measured(loss: int) -> Loss:
+    return Loss('loss', loss)
+
+
+def whole(last: int, first: int = 0, sign: str = '+') -> Meter:
+    return Meter('whole', sign, first, last)
+
+
+def placed(items: tuple, filler) -> list:
+    return (list(items) + 4 * [filler])[:4]
+
+
+def counted(items: tuple, count: int, filler) -> list:
+    """The first `count`, where more than four are refused by their number."""
+    return (placed(items, filler) + max(count - 4, 0) * [filler])[:count]
+
+
+def source_fields(number: int, source: Source) -> tuple[int, ...]:
+    """All but the count and the meters. A site or a loss that is not there is the
+    last number of its type, so that it would be refused."""
+    site, loss = source.supply.site, source.loss.measured
+    return (number, SIDES.index(source.side),
+            SUPPLIES.index(source.supply.name), LAST_U8 if site is None else site,
+            LOSSES.index(source.loss.name), LAST_U16 if loss is None else loss)
+
+
+def meter_fields(meters: list[Meter]) -> list[int]:
+    return [field for m in meters
+            for field in (SIGNS.index(m.sign), KINDS.index(m.kind), m.first, m.last)]
+
+
+class Calls:
+    """Makes calls on the reference, and keeps each with its answer.
+
+    A stored record stands as if entered. Where an entry would be refused it is
+    damaged, and so is the ledger until an entry or a drop takes its place."""
+
+    def __init__(self):
+        self.vectors: list[tuple] = []
+        self.refusals = Counter()
+        self.reports = self.given = self.damages = 0
+        self.kinds = set()  # of the sources in reports given
+        self.new()
+
+    def add(self, fields: tuple, answer):
+        if isinstance(answer, (int, reference.Refused)):
+            self.refusals[answer if isinstance(answer, int) else answer.number] += 1
+        text = answer if isinstance(answer, str) else reference.answer_text(answer)
+        fields = (*fields, *(FIELDS - len(fields)) * (0,))
+        self.vectors.append((fields, text.removesuffix('\n')))
+        return answer
+
+    def add_entry(self, fields: tuple, place: tuple, answer):
+        if answer is reference.OK:
+            self.damaged.discard(place)
+        return self.add(fields, answer)
+
+    def new(self):
+        self.ledger = reference.Ledger()
+        self.damaged = set()
+        self.add((NEW,), reference.OK)
+
+    def grid(self, margin: int, mark: str = 'thermal'):
+        return self.add_entry((GRID, margin, MARKS.index(mark)), ('grid',),
+                              self.ledger.enter_grid(margin, mark))
+
+    def plant(self, number: int, site: int, generation: int, *lines: tuple, count=None):
+        fields, plant = plant_call(number, site, generation, lines, count)
+        return self.add_entry((PLANT, *fields), ('plant', number),
+                              self.ledger.enter_plant(number, plant))
+
+    def source(self, number: int, side: str, supply: Supply, loss: Loss, *meters: Meter,
+               count=None):
+        count = len(meters) if count is None else count
+        source = Source(side, supply, loss, counted(meters, count, NO_METER))
+        fields = (*source_fields(number, source), count,
+                  *meter_fields(placed(meters, NO_METER)))
+        return self.add_entry((SOURCE, *fields), ('source', number),
+                              self.ledger.enter_source(number, source))
+
+    def drop_plant(self, number: int):
+        return self.add_entry((DROP_PLANT, number), ('plant', number),
+                              self.ledger.drop_plant(number))
+
+    def drop_source(self, number: int):
+        return self.add_entry((DROP_SOURCE, number), ('source', number),
+                              self.ledger.drop_source(number))
+
+    def report(self):
+        return self.add_report((REPORT,))
+
+    def add_report(self, fields: tuple):
+        self.reports += 1
+        if self.damaged:
+            self.damages += 1
+            return self.add(fields, 'damaged')
+        answer = reference.report(self.ledger)
+        if isinstance(answer, reference.Report):
+            reference.check_demand_3(self.ledger, answer)
+            self.given += 1
+            self.kinds |= {(source.side, source.supply.name, source.loss.name,
+                            answer.figures[number].option)
+                           for number, source in self.ledger.sources.items()}
+        return self.add(fields, answer)
+
+    # Records stored as no call does
+
+    def mark(self, place: tuple, refusal: int | None):
+        self.damaged.discard(place)
+        if refusal is not reference.OK:
+            self.damaged.add(place)
+
+    def store_grid(self, margin: int, mark: str = 'thermal'):
+        self.mark(('grid',), self.ledger.enter_grid(margin, mark))
+        return self.add_report((STORED_GRID, margin, MARKS.index(mark)))
+
+    def store_plant(self, number: int, site: int, generation: int, *lines: tuple, count=None,
+                    stands: bool = True):
+        fields, plant = plant_call(number, site, generation, lines, count)
+        if stands:
+            self.mark(('plant', number), self.ledger.enter_plant(number, plant))
+            self.ledger.plants[number] = plant
+        else:
+            self.mark(('plant', number), reference.OK)
+            self.ledger.plants.pop(number, None)
+        return self.add_report((STORED_PLANT, *fields, int(stands)))
+
+    def store_source(self, number: int, side: str, supply: Supply, loss: Loss, energy: int,
+                     stands: bool = True):
+        source = Source(side, supply, loss, [whole(energy)])
+        if stands:
+            self.mark(('source', number), self.ledger.enter_source(number, source))
+            self.ledger.sources[number] = source
+        else:
+            self.mark(('source', number), reference.OK)
+            self.ledger.sources.pop(number, None)
+        fields = (*source_fields(number, source), int(stands), energy)
+        return self.add_report((STORED_SOURCE, *fields))
+
+
+def plant_call(number: int, site: int, generation: int, lines: tuple, count: int | None):
+    """The fields, and the plant with the lines that count."""
+    count = len(lines) if count is None else count
+    lines = [FuelLine(*line) for line in lines]
+    fields = [figure for line in placed(lines, NO_LINE) for figure in line]
+    return ((number, site, generation, count, *fields),
+            Plant(site, generation, counted(lines, count, NO_LINE)))
+
+
+# 1. Lists made by hand
+
+BENCH_LINE = (1_000, 43_000, 74_100)
+LINE = (1, 1, 1)
+
+
+def around(limit: int, last: int) -> tuple[int, ...]:
+    """The limit, its neighbours and the type's last numbers."""
+    return limit - 1, limit, limit + 1, last - 1, last
+
+
+def listing(calls: Calls):
+    calls.grid(812_400)
+    calls.plant(0, 1, 7_000, BENCH_LINE)
+    calls.source(0, 'project', COMBINED, DEFAULT20, whole(1_000_001))
+    calls.source(1, 'baseline', captive(1), NONE, whole(500_003))
+    calls.report()
+
+
+def grid_and_plant_limits(calls: Calls):
+    calls.source(0, 'project', either(0), measured(0), whole(1_000_003))
+    calls.report()
+    calls.plant(0, 0, 1_000)
+    for margin, mark in product(around(reference.FACTOR_LIMIT, LAST_U32), MARKS):
+        calls.grid(margin, mark)
+        calls.report()
+    for number in around(7, LAST_U8):
+        calls.plant(number, 0, 1_000, LINE)
+    for site in around(3, LAST_U8):
+        calls.plant(1, site, 1_000, LINE)
+    for generation in (0, *around(100_000_000, LAST_U32)):
+        calls.plant(0, 0, generation, LINE)
+        calls.report()
+    for at, limit in enumerate((100_000_000, 150_000, 200_000)):
+        for figure in (0, 1, *around(limit, LAST_U32)):
+            line = (*LINE[:at], figure, *LINE[at + 1:])
+            calls.plant(2, 0, 7_000, *(figure % 4) * [LINE], line)
+            calls.report()
+
+
+def source_limits(calls: Calls):
+    calls.grid(1_000_000)  # 1 g a Wh, so that each report shows U
+    calls.plant(0, 3, 1_000, LINE)
+    for number in around(31, LAST_U8):
+        calls.source(number, 'leakage', CAPTIVE_DEFAULT, NONE, whole(1))
+    calls.report()
+    for supply, site in product((captive, either), around(3, LAST_U8)):
+        calls.source(2, 'project', supply(site), NONE if supply is captive else DEFAULT20,
+                     whole(1))
+        calls.report()
+    for loss, side in product((0, 1, *around(5_000, LAST_U16)), ('project', 'baseline')):
+        calls.source(2, side, COMBINED, measured(loss), whole(9_999))
+        calls.report()
+    for last in (0, 1, *around(LIMIT, LAST_U64)):
+        calls.source(3, 'baseline', COMBINED, measured(0), whole(last))
+        calls.source(4, 'project', COMBINED, measured(5_000), whole(LIMIT, first=last))
+        calls.report()
+    for side, last in product(SIDES, (4, 5, 6)):
+        calls.source(5, side, COMBINED, measured(0), whole(last), whole(5, sign='-'))
+        calls.source(5, side, COMBINED, measured(0), whole(LIMIT), whole(last), whole(5, 0, '-'))
+    calls.report()
+
+
+def counts(calls: Calls):
+    """Places beyond the count hold what would be refused."""
+    calls.grid(1_000_000)
+    for count in (0, 1, 2, 3, 4, 5, 6, 128, 200, LAST_U8):
+        calls.plant(7, 3, 1_000, *count % 5 * [(500_000, 1, 1)], count=count)
+        calls.plant(6, 3, 1_000, *4 * [LINE], count=count)
+        calls.source(31, 'project', captive(3), NONE, *count % 5 * [whole(7)], count=count)
+        calls.source(30, 'baseline', COMBINED, measured(0), *4 * [whole(9)], count=count)
+        calls.report()
+
+
+def registers(calls: Calls):
+    """As last and as first reading, of + and of - meters; 1 g a Wh."""
+    calls.grid(1_000_000)
+    for at, register in enumerate(SPECIAL_REGISTERS):
+        side = SIDES[at % 3]
+        for meters in ([Meter('single', '+', 0, register)],
+                       [Meter('single', '-', register, LAST_REGISTER), whole(LIMIT)],
+                       [Meter('single', SIGNS[at % 2], register, register), whole(9)]):
+            if calls.source(0, side, COMBINED, measured(0), *meters) is reference.OK:
+                calls.report()
+
+
+def every_supply_and_loss(calls: Calls):
+    """Alone, then beside a source of the other direction. Of the two sites one is above
+    the combined margin and one below."""
+    calls.plant(3, 2, 1_001, BENCH_LINE)
+    calls.plant(4, 1, 1_001, LINE)
+    supplies = (COMBINED, GRID_DEFAULT, captive(2), CAPTIVE_DEFAULT, either(2), either(1))
+    for number, (side, supply, loss) in enumerate(product(
+            SIDES, supplies, (NONE, measured(5_000), DEFAULT20, DEFAULT3))):
+        if number % 24 == 1:
+            calls.grid(400_001 + number, MARKS[number // 24 % 2])
+        at = number % 32
+        if calls.source(at, side, supply, loss, whole(700_001)) is reference.OK:
+            calls.report()
+            other = 'project' if side == 'baseline' else 'baseline'
+            calls.source(31 - at, other, COMBINED, measured(1), whole(700_000 + number))
+            calls.report()
+            calls.drop_source(31 - at)
+            calls.drop_source(at)
+
+
+def generation_limits(calls: Calls):
+    """9 and 10 at their limits; 10,000,000,000 mg is 10,000,000 mg/kWh."""
+    calls.source(1, 'baseline', captive(0), NONE, whole(3))
+    full = (100_000_000, 1_000, 100)
+    for generation, more in product((999, 1_000, 1_001), (0, 1, 999_999, 1_000_000)):
+        calls.plant(0, 0, generation, full, (more, 1, 1))
+        calls.source(0, 'project', captive(0), NONE, whole(3))
+        calls.report()
+        calls.drop_source(0)
+        calls.report()
+    calls.plant(0, 0, 500)
+    calls.plant(1, 1, 500)
+    calls.report()
+    calls.plant(1, 0, 499)  # from site to site
+    calls.report()
+    calls.plant(7, 0, 1)
+    calls.report()
+    calls.drop_plant(7)
+    calls.report()
+
+
+def alone_at_zero(calls: Calls):
+    """Sums of 0: a default is open by who stands."""
+    calls.plant(0, 0, 1_000)
+    calls.grid(5, 'hydro')
+    for side, (supply, loss) in product(SIDES, (
+            (GRID_DEFAULT, measured(0)), (GRID_DEFAULT, DEFAULT20), (either(0), DEFAULT3))):
+        for number, energy in ((3, 0), (2, 0), (2, 700_001)):
+            calls.source(number, side, supply, loss, whole(energy))
+            calls.report()
+
+
+def comparisons(calls: Calls):
+    """P against B and P' against B' one below, equal and one above; equal at 0 too, which
+    is not that none stands."""
+    calls.plant(0, 0, 1_000)
+    for mark, supply, loss in product(MARKS, (COMBINED, GRID_DEFAULT, either(0)),
+                                      (DEFAULT20, DEFAULT3, measured(1))):
+        calls.grid(700_001, mark)
+        for energies in ((1_000, 999), (1_000, 1_000), (1_000, 1_001), (0, 0)):
+            calls.source(0, 'leakage', supply, loss, whole(energies[0]))
+            calls.source(1, 'baseline', GRID_DEFAULT, loss, whole(energies[1]))
+            calls.report()
+        calls.drop_source(0)
+        calls.report()
+
+
+def either_both_ways(calls: Calls):
+    """Captive below, at and above the combined margin, and between it and the next:
+    3 mg over 1,000 kWh is 1 up and 0 down."""
+    calls.plant(0, 0, 1_000, (7_000, 1, 1_000))  # 7 mg/kWh
+    for margin, side in product((6, 7, 8), SIDES):
+        calls.grid(margin)
+        calls.source(0, side, either(0), measured(0), whole(1_000_000))
+        calls.report()
+    calls.plant(0, 0, 1_000, (3_000, 1, 1))
+    for margin, side in product((0, 1, 2), SIDES):
+        calls.grid(margin)
+        calls.source(0, side, either(0), measured(0), whole(1_000_000))
+        calls.report()
+
+
+def largest_report(calls: Calls):
+    """32 sources at every limit; 32 fuel lines first above the factor's limit, then
+    at it, with a combined margin that either takes for baseline alone."""
+    calls.grid(9_999_999)
+    for line in ((100_000_000, 150_000, 200_000), (100_000_000, 50_000, 50_000)):
+        for number in range(8):
+            calls.plant(number, 3, 100_000_000, *4 * [line])
+        for number in range(32):
+            supply, loss = ((COMBINED, measured(5_000)), (either(3), measured(5_000)),
+                            (captive(3), NONE))[number % 3]
+            calls.source(number, 'project', supply, loss, whole(LIMIT))
+        calls.report()
+    for side in ('leakage', 'baseline'):
+        for number in range(32):
+            calls.source(number, side, either(3), measured(5_000), *2 * [whole(LIMIT // 2)])
+        calls.report()
+
+
+def source_precedence(calls: Calls):
+    """Each set of defects: the first number of the set answers."""
+    for defects in range(64):
+        has = [defects >> bit & 1 for bit in range(6)]
+        meters = [whole(1, sign='-' if has[5] else '+')]
+        meters += has[3] * [Meter('single', '+', 0x3F800001, 0x3F800000)]
+        meters += has[2] * [Meter('single', '-', 0, 0x7FC00000)]
+        count = (0, 5, LAST_U8)[defects % 3] if has[1] else len(meters)
+        calls.source(31 + has[0], 'project', COMBINED, NONE if has[4] else measured(1), *meters,
+                     count=count)
+        calls.source(0, 'baseline', captive(3 + has[0]), measured(5_000 + has[1]) if has[4]
+                     else NONE, *meters, count=count)
+
+
+def report_precedence(calls: Calls):
+    """Sources with several reasons to refuse, taken away one by one."""
+    calls.source(9, 'project', either(0), DEFAULT3, whole(1_000))
+    calls.source(20, 'baseline', GRID_DEFAULT, DEFAULT20, whole(1_000))
+    calls.source(5, 'leakage', GRID_DEFAULT, DEFAULT3, whole(1_000))
+    for mend in (lambda: calls.grid(1, 'hydro'), lambda: calls.drop_source(5),
+                 lambda: calls.plant(0, 0, 999, (100_000_000, 1_000, 101)),
+                 lambda: calls.plant(1, 0, 1), lambda: calls.plant(0, 0, 1_000),
+                 lambda: calls.source(21, 'baseline', COMBINED, measured(0), whole(1)),
+                 lambda: calls.drop_source(20),
+                 lambda: calls.source(22, 'baseline', COMBINED, measured(0), whole(999)),
+                 lambda: calls.source(22, 'baseline', COMBINED, measured(0), whole(1_000))):
+        calls.report()
+        mend()
+    calls.report()
+
+
+def replacements(calls: Calls):
+    """A refused entry leaves the one that stands, an accepted one takes its place."""
+    calls.grid(1_000_000)
+    calls.plant(0, 0, 1_000, BENCH_LINE)
+    for number, side in product((0, 31), SIDES):
+        calls.source(number, side, COMBINED, measured(0), whole(1_000_001 + number))
+        calls.report()
+        calls.source(number, side, COMBINED, measured(0), whole(1, sign='-'))
+        calls.source(number, side, captive(0), NONE, whole(2_000_001 + number))
+        calls.report()
+    calls.grid(reference.FACTOR_LIMIT + 1)
+    calls.plant(0, 0, 7_000, NO_LINE)
+    calls.report()
+    calls.grid(0, 'hydro')
+    calls.plant(0, 0, 7_000)
+    calls.report()
+
+
+def drops(calls: Calls):
+    """Plants and sources are numbered apart."""
+    for number in range(8):
+        calls.plant(number, number % 4, 1_000 + number, LINE)
+    for number in range(32):
+        calls.source(number, SIDES[number % 3], captive(number % 4), NONE, whole(number))
+    calls.report()
+    for number in (0, 7, 8, 9, 31, 32, 33, 128, 254, LAST_U8):
+        for _ in range(2):
+            calls.drop_plant(number)
+            calls.drop_source(number)
+        calls.report()
+    calls.new()
+    calls.drop_plant(0)
+    calls.drop_source(0)
+    calls.report()
+
+
+def damaged_plants(calls: Calls):
+    """Each figure beyond its limit. Nothing in a record that does not stand, or in
+    lines beyond the count, is damage."""
+    calls.source(4, 'project', captive(0), NONE, whole(5))
+    for number, damage in enumerate((
+            (4, 1_000), (LAST_U8, 1_000), (0, 100_000_001), (0, LAST_U32),
+            *((0, 1_000, *at * [LINE], line) for at in range(4)
+              for line in ((100_000_001, 1, 1), (1, 0, 1), (1, 150_001, 1), (1, 1, 200_001))))):
+        calls.store_plant(number % 8, *damage)
+        if number % 3 == 0:
+            calls.drop_plant(number % 8)
+        else:
+            calls.plant(number % 8, 0, 1_000)
+        calls.store_plant(7 - number % 8, *damage, stands=False)
+        calls.store_plant(0, 0, 1_000, count=number % 2)
+        calls.plant(0, 0, 1_000)
+    for count in (0, 1, 4, 5, 200, LAST_U8):
+        calls.store_plant(5, 0, 1_000, *4 * [LINE], count=count)
+    calls.new()
+    calls.report()
+
+
+def damaged_sources(calls: Calls):
+    """The same of sources, of a loss that does not go with the supply, and of the grid."""
+    for number, damage in enumerate((
+            (captive(4), NONE, 1), (either(LAST_U8), DEFAULT20, 1), (COMBINED, measured(5_001), 1),
+            (either(0), measured(LAST_U16), 1), (GRID_DEFAULT, DEFAULT3, LIMIT + 1),
+            (CAPTIVE_DEFAULT, NONE, LAST_U64), (CAPTIVE_DEFAULT, NONE, LIMIT),
+            (COMBINED, NONE, 1), (GRID_DEFAULT, NONE, 1),
+            (either(0), NONE, 1), (captive(0), measured(0), 1), (captive(0), DEFAULT3, 1),
+            (CAPTIVE_DEFAULT, DEFAULT20, 1))):
+        side, at = SIDES[number % 3], number * 31 // 12  # from 0 to 31
+        calls.store_source(at, side, *damage)
+        calls.source(at, side, COMBINED, NONE, whole(1))  # refused, so it mends nothing
+        calls.report()
+        if number % 2:
+            calls.drop_source(at)
+        else:
+            calls.source(at, side, CAPTIVE_DEFAULT, NONE, whole(number))
+        calls.store_source(number, side, *damage, stands=False)
+    for margin in around(reference.FACTOR_LIMIT, LAST_U32):
+        calls.store_grid(margin, 'hydro')
+    calls.grid(LAST_U32)
+    calls.report()
+    calls.grid(1)
+    calls.report()
+
+
+BY_HAND = (listing, grid_and_plant_limits, source_limits, counts, registers,
+           every_supply_and_loss, generation_limits, alone_at_zero, comparisons,
+           either_both_ways, largest_report, source_precedence, report_precedence,
+           replacements, drops, damaged_plants, damaged_sources)
+
+
+# 2. Lists at random
+
+LISTS = 150
+CALLS = 25
+
+
+class RandomCalls(Calls):
+    """Mends what makes a report refused, so that reports are given often."""
+
+    def __init__(self, numbers):
+        super().__init__()
+        self.numbers = numbers
+        self.begin()
+
+    def begin(self):
+        self.out_of_range = self.pick((0, 2, 6))  # percent
+        self.equal_energies = self.chance(30)
+        self.last_source = 5 if self.equal_energies else 31
+
+    def pick(self, items):
+        return self.numbers.pick(items)
+
+    def chance(self, percent: int) -> bool:
+        return self.numbers.below(100) < percent
+
+    def above(self, limit: int, last: int) -> int:
+        return self.pick((limit + 1, last, limit + 1 + self.numbers.below(last - limit)))
+
+    def number(self, limit: int, last: int) -> int:
+        """Mostly within the limit and of any size, at times at it or above."""
+        if self.chance(self.out_of_range):
+            return self.above(limit, last)
+        if self.chance(10):
+            return self.pick((limit - 1, limit))
+        return self.numbers.of_any_size(limit + 1)
+
+    def index(self, highest: int) -> int:
+        if self.chance(self.out_of_range):
+            return self.above(highest, LAST_U8)
+        return self.numbers.below(highest + 1)
+
+    # Meters
+
+    def any_register(self) -> int:
+        if self.chance(40):
+            return self.pick(SPECIAL_REGISTERS)
+        fraction = self.pick((0, 1, 0x7FFFFF, self.numbers.below(0x800000)))
+        return self.numbers.below(512) << 23 | fraction
+
+    def single_readings(self, sign: str) -> tuple[int, int]:
+        """A - meter mostly moves little, so that E is mostly not below 0."""
+        if self.chance(self.out_of_range):
+            return self.any_register(), self.any_register()
+        if self.chance(20):
+            first = self.pick((0, 0x80000000))
+            return first, self.pick((first, self.numbers.below(LAST_REGISTER + 1)))
+        if self.chance(60):  # 0.5 Wh to 500 MWh
+            first = 0x3A000000 + self.numbers.below(0x0F000000)
+        else:
+            first = self.numbers.below(LAST_REGISTER + 1)
+        far = 0x02000000 if sign == '+' else 0x100
+        moved = self.pick((0, 1, 2, *3 * [self.numbers.below(far)]))
+        return first, min(first + moved, LAST_REGISTER)
+
+    def whole_readings(self, sign: str) -> tuple[int, int]:
+        if self.equal_energies:
+            first = self.pick((0, 7))
+            return first, first + self.pick(EQUAL_ENERGIES)
+        first, last = self.number(LIMIT, LAST_U64), self.number(LIMIT, LAST_U64)
+        if sign == '-' and self.chance(90):
+            return first, min(first + self.numbers.below(10), LAST_U64)
+        return (first, last) if self.chance(5) else (min(first, last), max(first, last))
+
+    def meter(self, sign: str) -> Meter:
+        if self.chance(50) and not self.equal_energies:
+            return Meter('single', sign, *self.single_readings(sign))
+        return Meter('whole', sign, *self.whole_readings(sign))
+
+    def meters(self) -> tuple[list[Meter], int]:
+        """Four meters, and how many of them count."""
+        signs = [self.pick('++-') for _ in range(4)]
+        if not self.chance(10):
+            signs[0] = '+'
+        count = self.pick((1, 1, 1, 2, 3, 4))
+        if self.chance(3):
+            count = self.pick((0, 5, 6, LAST_U8))
+        return [self.meter(sign) for sign in signs], count
+
+    # Calls
+
+    def random_grid(self):
+        self.grid(self.number(reference.FACTOR_LIMIT, LAST_U32), self.pick(MARKS))
+
+    def fuel(self, generation: int) -> tuple[int, int, int]:
+        """Burnt for so many kWh, mostly at less than 10,000,000 mg/kWh."""
+        if self.chance(20):
+            return (self.number(100_000_000, LAST_U32), self.number(150_000, LAST_U32),
+                    self.number(200_000, LAST_U32))
+        if self.chance(40):
+            return tuple(1 + self.numbers.below(12) for _ in range(3))
+        return (self.numbers.below(min(generation, 100_000_000) + 1),
+                1 + self.numbers.below(43_000), self.numbers.below(74_101))
+
+    def tight_fuels(self, generation: int) -> list[tuple[int, int, int]]:
+        """Lines a little above or below whole milligrams, whose sum is near a whole
+        factor: it shows whether each line is rounded, or their sum."""
+        near = generation * (1 + self.numbers.below(max(1, 90_000 // generation)))
+        parts = self.pick((1, 999))
+        rest = 1_000 * (near - self.numbers.below(5)) + parts
+        return 3 * [(parts, 1, 1)] + [(min(rest, 100_000_000), 1, 1)]
+
+    def random_plant(self):
+        generation = self.pick((500, 999, 1_000, 7_000, self.number(100_000_000, LAST_U32)))
+        # 0 to 3 mostly keep the plants that bring their sites above 1,000 kWh.
+        number = self.index(7) if self.chance(30) else 4 + self.numbers.below(4)
+        self.plant_at(number, self.index(3), generation)
+
+    def plant_at(self, number: int, site: int, generation: int):
+        if generation > 0 and self.chance(30):
+            self.plant(number, site, generation, *self.tight_fuels(generation))
+        else:
+            count = self.pick((0, 1, 1, 2, 3, 4, 4))
+            if self.chance(self.out_of_range):
+                count = self.pick((5, 6, LAST_U8))
+            lines = [self.fuel(generation) for _ in range(4)]
+            self.plant(number, site, generation, *lines, count=count)
+
+    def loss(self, supply: Supply) -> Loss:
+        if self.chance(3):
+            return self.pick((NONE, DEFAULT20, measured(5_001), measured(0)))
+        if supply.name not in reference.GRID_SUPPLIES:
+            return NONE
+        loss = measured(self.number(5_000, LAST_U16))
+        return self.pick((loss, loss, measured(5_000), DEFAULT20, DEFAULT3))
+
+    def supply(self) -> Supply:
+        more = ('griddefault', 'griddefault') if self.equal_energies else ()
+        name = self.pick(SUPPLIES + more)
+        return Supply(name, self.index(3) if name in reference.SITE_SUPPLIES else None)
+
+    def random_source(self):
+        supply = self.supply()
+        meters, count = self.meters()
+        self.source(self.index(self.last_source), self.pick(SIDES), supply, self.loss(supply),
+                    *meters, count=count)
+
+    def random_drop(self):
+        drop, standing, highest = self.pick((
+            (self.drop_source, self.ledger.sources, 31), (self.drop_plant, self.ledger.plants, 7)))
+        drop(self.pick(sorted(standing)) if standing and self.chance(70) else self.index(highest))
+
+    def random_store(self):
+        """A record of any figures."""
+        if self.chance(50):
+            self.store_plant(self.numbers.below(8), self.index(4),
+                             self.number(100_000_000, LAST_U32),
+                             *(self.fuel(1_000) for _ in range(4)), count=self.pick((0, 1, 4, 5)),
+                             stands=self.chance(70))
+        else:
+            self.store_source(self.numbers.below(32), self.pick(SIDES), self.supply(),
+                              self.pick((NONE, DEFAULT20, measured(0))),
+                              self.number(LIMIT, LAST_U64), stands=self.chance(70))
+
+    def mend(self, refused: reference.Refused):
+        """A call after which a refused report gets further."""
+        source = self.ledger.sources[refused.source]
+        if refused.number == 8:
+            self.random_grid()
+        elif refused.number == 9 and self.chance(70):
+            site, generation = source.supply.site, self.pick((999, 1_000, 7_000))
+            self.plant_at(site, site, generation)
+        else:
+            self.drop_source(refused.source)
+
+    def random_report(self):
+        """A report, and often others after what keeps it from being given."""
+        answer = self.report()
+        while isinstance(answer, reference.Refused) and self.chance(85):
+            self.mend(answer)
+            answer = self.report()
+
+    def add_list(self):
+        """Mostly begins with a grid and plants, without which few reports are given."""
+        self.begin()
+        end = len(self.vectors) + CALLS
+        self.new()
+        if self.chance(80):
+            self.random_grid()
+        for site in range(4):
+            if self.chance(80):
+                self.plant_at(site, site, self.pick((1_000, 1_001, 7_000, 100_000_000)))
+        calls = (*9 * (self.random_source,), *2 * (self.random_report,), *2 * (self.random_drop,),
+                 *2 * (self.random_plant,), self.random_grid)
+        stores = (self.random_store,) if self.chance(20) else ()
+        while len(self.vectors) < end - 1:
+            self.pick(calls + stores)()
+        self.random_report()
+
+
+def check_met(by_hand: Calls, at_random: Calls):
+    """What the lists are for comes up in them."""
+    for calls in (by_hand, at_random):
+        assert set(calls.refusals) == {*range(1, 13)}, 'not every refusal of 1 to 12 is met'
+        assert calls.damages, 'no damage is met'
+        assert calls.given * 3 >= calls.reports, 'reports are seldom given'
+    # 3 sides by 3 losses by combined, griddefault and either with its two options;
+    # 3 sides by captive and captivedefault
+    assert len(by_hand.kinds) == 42, 'not every kind of source is reported'
+
+
+def call_vectors(numbers) -> list[tuple]:
+    """The fields and the answer of each call, in the order of the calls."""
+    by_hand = Calls()
+    for add_list in BY_HAND:
+        by_hand.new()
+        add_list(by_hand)
+    at_random = RandomCalls(numbers)
+    for _ in range(LISTS):
+        at_random.add_list()
+    check_met(by_hand, at_random)
+    return by_hand.vectors + at_random.vectors
