@@ -94,6 +94,11 @@ unfoldable pub stands : List Call → Standing
 unfolding afterCalls after run energyOf exactEnergy exactMargin exactPlant sumᵣ exactCaptive exactFactorOf exactGrams exactFigure gap exactSide
 stands calls = afterCalls after nothing calls
 
+-- "An empty ledger reports zeros."
+pub empty-reports-zeros : run (report ∷ []) ≡ reported (record { project = zeros; leakage = zeros; baseline = zeros; reduction = pos 0 }) ∷ []
+unfolding run
+empty-reports-zeros = refl
+
 -- ---- all three sides stand, and the report is given
 
 abbrev pub threeSides : List Call
