@@ -57,18 +57,22 @@ those p (x ∷ xs) = cond (p x) (x ∷ those p xs) (those p xs)
 
 -- ---- P, B, P' and B'
 
+-- Whether a source counts: by its supply, and by whether it is a project or leakage source or a baseline source.
+abbrev pub countsIn : (Supply → Bool) → (Direction → Bool) → Numbered Source → Bool
+countsIn supplies sides x = supplies (x .item .supply) && sides (direction (x .item .side))
+
+abbrev pub energyIn : Numbered Source → ℕ
+energyIn x = x .item .energy
+
 -- "the sum of E over project and leakage sources with .. supply, B over baseline sources", and how many of each stand.
 unfoldable pub consumption : (Supply → Bool) → List (Numbered Source) → Consumption
-consumption counts xs =
+consumption supplies xs =
     record {
-      project = sum (map energy (those (λ (x : Numbered Source). counts (x .item .supply) && isProject (direction (x .item .side))) xs));
-      baseline = sum (map energy (those (λ (x : Numbered Source). counts (x .item .supply) && isBaseline (direction (x .item .side))) xs));
-      projects = length (those (λ (x : Numbered Source). counts (x .item .supply) && isProject (direction (x .item .side))) xs);
-      baselines = length (those (λ (x : Numbered Source). counts (x .item .supply) && isBaseline (direction (x .item .side))) xs);
+      project = sum (map energyIn (those (countsIn supplies isProject) xs));
+      baseline = sum (map energyIn (those (countsIn supplies isBaseline) xs));
+      projects = length (those (countsIn supplies isProject) xs);
+      baselines = length (those (countsIn supplies isBaseline) xs);
     }
-  where
-    energy : Numbered Source → ℕ
-    energy x = x .item .energy
 
 -- P and B: "with combined or griddefault supply".
 abbrev pub comparesFactor : Supply → Bool
