@@ -5,4 +5,6 @@ pub mod Buffer
 pub mod Decimals
 pub mod Signed
 pub mod Registers
+pub mod Pieces
+pub mod Templates
 pub mod Examples
