@@ -37,9 +37,9 @@ PROGRAM = ROOT / 'target/bin/tally'
 
 SEEDS = 2_000
 LONG = 1_000  # lines of a long input, mostly within 65,536 bytes
-SECONDS = 60  # for one run of the program
+SECONDS = 20  # for one run of the program
 SHOWN = 3  # failing inputs that are shrunk and shown
-TRIALS = 500  # runs of the program for shrinking one
+TRIALS = 300  # runs of the program for shrinking one
 
 
 class Case(NamedTuple):
@@ -71,25 +71,31 @@ def run_in_pieces(program: Path, data: bytes, size: int) -> Outcome:
     """Through a pipe, each piece once the piece before has been read."""
     reader, writer = os.pipe()
     with tempfile.TemporaryFile() as output:
-        with subprocess.Popen([program], stdin=reader, stdout=output) as process:
-            try:
-                for at in range(0, len(data), size):
-                    os.write(writer, data[at:at + size])
-                    wait_until_read(reader, process)
-            finally:
-                os.close(reader)
-                os.close(writer)
+        process = subprocess.Popen([program], stdin=reader, stdout=output)
+        for at in range(0, len(data), size):
+            os.write(writer, data[at:at + size])
+            if not all_read(reader, process):
+                break
+        os.close(reader)
+        os.close(writer)
+        try:
             process.wait(SECONDS)
+        except subprocess.TimeoutExpired:
+            process.kill()
+            process.wait()
+            raise
         output.seek(0)
         return Outcome(output.read(), process.returncode)
 
 
-def wait_until_read(pipe: int, process: subprocess.Popen):
+def all_read(pipe: int, process: subprocess.Popen) -> bool:
+    """Waits until nothing is left in the pipe; False if the program reads no more."""
     end = time.monotonic() + SECONDS
-    while unread(pipe) and process.poll() is None:
-        if time.monotonic() > end:
-            process.kill()
+    while unread(pipe):
+        if process.poll() is not None or time.monotonic() > end:
+            return False
         time.sleep(0.00001)
+    return True
 
 
 def unread(pipe: int) -> int:
