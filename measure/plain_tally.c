@@ -435,9 +435,14 @@ static void answer_lines(const char *input, size_t size) {
     }
 }
 
-int main(void) {
+// Reads all of standard input, or as much as shows that it is too long, and answers into `output`.
+static void tally(void) {
     static char input[INPUT_LIMIT + 1];
     size_t size = fread(input, 1, sizeof input, stdin);
     if (size > INPUT_LIMIT) put("refused 14\n"); else answer_lines(input, size);
+}
+
+int main(void) {
+    tally();
     return fwrite(output, 1, written, stdout) == written ? 0 : 1;
 }

@@ -2,6 +2,7 @@
 
     generate.py SEED          writes the random input of a seed
     generate.py --full SEED   writes a random input of 65,536 bytes
+    generate.py --fuzz DIR    writes small inputs and words for a fuzzer to start from
     generate.py --self-check  runs 300 seeds and the boundary inputs through the
                               reference and counts what they meet
 """
@@ -10,6 +11,7 @@ import random
 import re
 import sys
 from collections import Counter
+from pathlib import Path
 
 import counterexamples
 import reference
@@ -539,6 +541,28 @@ def boundary_inputs() -> list[bytes]:
         *(counterexamples.text(make()) for make in counterexamples.CASES)]
 
 
+# For a fuzzer
+
+
+def words() -> set[str]:
+    """Parts of forms, and numbers at and around limits."""
+    lines = [*SAMPLES, *NUMBERED]
+    numbers = [value for _, limit in FIELDS for value in around(limit)]
+    return {*re.findall(r'\(?[a-z]+[0-9]*\)?', ' '.join(lines)), ') (', ' + ', ' - ',
+            *map(str, numbers), *(f'{register:08x}' for register in SPECIAL_REGISTERS)}
+
+
+def write_for_fuzzer(folder: Path):
+    """inputs/ has an input a file, and the file words the form that AFL++ reads."""
+    inputs = [listing(), joined(NUMBERED), report_precedence(), joined(SAMPLES), b'(report)',
+              *(counterexamples.text(make()) for make in counterexamples.CASES),
+              *(random_input(seed, 12) for seed in range(20))]
+    (folder / 'inputs').mkdir()
+    for number, data in enumerate(inputs):
+        (folder / 'inputs' / str(number)).write_bytes(data)
+    (folder / 'words').write_text(''.join(f'"{word}"\n' for word in sorted(words())))
+
+
 # The self-check
 
 
@@ -618,5 +642,7 @@ if __name__ == '__main__':
         sys.stdout.buffer.write(random_input(int(sys.argv[1])))
     elif len(sys.argv) == 3 and sys.argv[1] == '--full' and sys.argv[2].isdecimal():
         sys.stdout.buffer.write(full_input(int(sys.argv[2])))
+    elif len(sys.argv) == 3 and sys.argv[1] == '--fuzz':
+        write_for_fuzzer(Path(sys.argv[2]))
     else:
         sys.exit(__doc__)
