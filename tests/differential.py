@@ -34,6 +34,7 @@ import slips
 
 ROOT = Path(__file__).resolve().parent.parent
 PROGRAM = ROOT / 'target/bin/tally'
+EXAMPLE = ROOT / 'examples/site.txt'
 
 SEEDS = 2_000
 LONG = 1_000  # lines of a long input, mostly within 65,536 bytes
@@ -188,6 +189,7 @@ class Comparison:
 def by_hand() -> list[Case]:
     cases = [Case(f'by hand {n}', data)
              for n, data in enumerate(generate.boundary_inputs())]
+    cases.append(Case('examples/site.txt', EXAMPLE.read_bytes()))
     listing, largest = generate.listing(), generate.full_input(2)
     pieces = [(b'', 7), (b'\n', 7), (listing, 1), (listing, 7), (listing[:-1], 7),
               (largest, 4_000), (largest + b'\n', 4_000), (largest, 65_535)]
@@ -214,6 +216,8 @@ def at_length(lines: int):
 
 def compare_all(comparison: Comparison):
     random, hand = generate.Met(), generate.Met()
+    if reference.tally(EXAMPLE.read_bytes()) != EXAMPLE.with_suffix('.out').read_bytes():
+        comparison.fail('examples/site.out is not what the reference answers')
     for case in by_hand():
         comparison.compare(case, hand)
     for case in at_random():
