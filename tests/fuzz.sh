@@ -17,8 +17,15 @@ for tool in "$program" afl-fuzz afl-clang-fast python3; do
 done
 
 room=$(mktemp -d)
+failures() { sed -n 's/^[0-9]* passed, \([0-9]*\) failed$/\1/p' "$room/log"; }
 afl-clang-fast -std=c11 -O2 -o "$room/target" tests/fuzz_target.c >"$room/log" 2>&1 || { cat "$room/log"; exit 1; }
 python3 tests/generate.py --fuzz "$room"
+# AFL++ passes over an input to start from that crashes.
+if ! python3 tests/differential.py --program "$program" --inputs "$room/inputs" >"$room/log"; then
+    cat "$room/log"
+    echo "$(find "$room/inputs" -type f | wc -l) inputs compared, $(failures) differences"
+    exit 1
+fi
 TALLY=$program AFL_NO_UI=1 AFL_NO_AFFINITY=1 AFL_SKIP_CPUFREQ=1 AFL_I_DONT_CARE_ABOUT_MISSING_CRASHES=1 \
     afl-fuzz -V $((minutes * 60)) -t 5000 -G 70000 -i "$room/inputs" -x "$room/words" -o "$room/out" \
     -- "$room/target" >"$room/log" 2>&1 || { tail -n 30 "$room/log"; exit 1; }
@@ -36,7 +43,7 @@ for folder in queue crashes hangs; do
     done
 done
 python3 tests/differential.py --program "$program" --inputs "$room/kept" | tee "$room/log" || true
-differences=$((differences + $(sed -n 's/^[0-9]* passed, \([0-9]*\) failed$/\1/p' "$room/log")))
+differences=$((differences + $(failures)))
 if [ "$differences" -eq 0 ]; then rm -rf "$room"; else echo "the inputs are in $room/kept"; fi
 echo "$made inputs compared, $differences differences"
 [ "$made" -gt 0 ] && [ "$differences" -eq 0 ]
