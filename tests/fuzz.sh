@@ -3,7 +3,8 @@
 #
 # Instrumented, so that its branches guide the fuzzer: the plain C program measure/plain_tally.c. tally
 # is not: its compiler has no instrumentation of AFL++, and Debian's AFL++ cannot trace other programs.
-# So a path that tally alone has is found by chance only.
+# So a path that tally alone has is found by chance only. Inputs are changed by bytes, as AFL++ does,
+# and by lines (tests/fuzz_mutator.py).
 # Compared: on every input that the fuzzer makes, the output and exit status of tally with those of
 # the plain C (tests/fuzz_target.c). Then, on each input that it kept (one for each new path, and
 # those that differed, crashed or took too long), those of tally with the reference's.
@@ -26,7 +27,8 @@ if ! python3 tests/differential.py --program "$program" --inputs "$room/inputs" 
     echo "$(find "$room/inputs" -type f | wc -l) inputs compared, $(failures) differences"
     exit 1
 fi
-TALLY=$program AFL_NO_UI=1 AFL_NO_AFFINITY=1 AFL_SKIP_CPUFREQ=1 AFL_I_DONT_CARE_ABOUT_MISSING_CRASHES=1 \
+export TALLY=$program PYTHONPATH=tests PYTHONDONTWRITEBYTECODE=1 AFL_PYTHON_MODULE=fuzz_mutator
+AFL_NO_UI=1 AFL_NO_AFFINITY=1 AFL_SKIP_CPUFREQ=1 AFL_I_DONT_CARE_ABOUT_MISSING_CRASHES=1 \
     afl-fuzz -V $((minutes * 60)) -t 5000 -G 70000 -i "$room/inputs" -x "$room/words" -o "$room/out" \
     -- "$room/target" >"$room/log" 2>&1 || { tail -n 30 "$room/log"; exit 1; }
 
@@ -36,14 +38,21 @@ differences=$(figure saved_crashes)
 echo "$made inputs made, $(figure corpus_count) kept, $(figure bitmap_cvg) of the instrumented edges met"
 echo "tally and the plain C differ, or one crashed, in $differences kept inputs; $(figure saved_hangs) took too long"
 
-mkdir "$room/kept"
-for folder in queue crashes hangs; do
-    find "$room/out/default/$folder" -maxdepth 1 -name 'id*' | while read -r file; do
-        cp "$file" "$room/kept/$folder-$(basename "$file")"
+# inputs_of FOLDER TO: copies the inputs that AFL++ kept there.
+inputs_of() {
+    find "$room/out/default/$1" -maxdepth 1 -name 'id*' | while read -r file; do
+        cp "$file" "$room/$2/$1-$(basename "$file")"
     done
-done
+}
+mkdir "$room/kept" "$room/differing"
+inputs_of queue kept
+inputs_of hangs kept
+inputs_of crashes differing
+if [ "$differences" -gt 0 ]; then
+    python3 tests/differential.py --program "$program" --inputs "$room/differing" || true
+fi
 python3 tests/differential.py --program "$program" --inputs "$room/kept" | tee "$room/log" || true
 differences=$((differences + $(failures)))
-if [ "$differences" -eq 0 ]; then rm -rf "$room"; else echo "the inputs are in $room/kept"; fi
+if [ "$differences" -eq 0 ]; then rm -rf "$room"; else echo "the inputs are in $room/kept and $room/differing"; fi
 echo "$made inputs compared, $differences differences"
 [ "$made" -gt 0 ] && [ "$differences" -eq 0 ]
