@@ -11,8 +11,9 @@
 # Ends by itself. Its last line is 'N inputs compared, M differences'; what differs is kept and shown.
 set -eu
 minutes=${1:?usage: tests/fuzz.sh MINUTES [PROGRAM]}
-cd "$(dirname "$0")/.."
-program=$(readlink -f "${2:-target/bin/tally}")
+root=$(cd "$(dirname "$0")/.." && pwd)
+program=$(readlink -f "${2:-$root/target/bin/tally}")
+cd "$root"
 for tool in "$program" afl-fuzz afl-clang-fast python3; do
     command -v "$tool" >/dev/null || { echo "$tool is missing"; exit 1; }
 done
