@@ -8,11 +8,12 @@
 # Compared: on every input that the fuzzer makes, the output and exit status of tally with those of
 # the plain C (tests/fuzz_target.c). Then, on each input that it kept (one for each new path, and
 # those that differed, crashed or took too long), those of tally with the reference's.
-# Ends by itself. Its last line is 'N inputs compared, M differences'; what differs is kept and shown.
+# Ends by itself. Its last line is 'N inputs compared, M differences'; what differs is kept and shown. N
+# counts an input again where AFL++ runs it again, M inputs that differ along different paths of the C.
 set -eu
 minutes=${1:?usage: tests/fuzz.sh MINUTES [PROGRAM]}
 root=$(cd "$(dirname "$0")/.." && pwd)
-program=$(readlink -f "${2:-$root/target/bin/tally}")
+program=$(realpath -m "${2:-$root/target/bin/tally}")
 cd "$root"
 for tool in "$program" afl-fuzz afl-clang-fast python3; do
     command -v "$tool" >/dev/null || { echo "$tool is missing"; exit 1; }
@@ -25,6 +26,7 @@ python3 tests/generate.py --fuzz "$room"
 # AFL++ passes over an input to start from that crashes.
 if ! python3 tests/differential.py --program "$program" --inputs "$room/inputs" >"$room/log"; then
     cat "$room/log"
+    echo "the inputs are in $room/inputs"
     echo "$(find "$room/inputs" -type f | wc -l) inputs compared, $(failures) differences"
     exit 1
 fi
