@@ -1,6 +1,8 @@
 """Inputs for comparing tally with the reference.
 
     generate.py SEED          writes the random input of a seed
+    generate.py --full SEED   writes a random input of 65,536 bytes
+    generate.py --fuzz DIR    writes small inputs and words for a fuzzer to start from
     generate.py --self-check  runs 300 seeds and the boundary inputs through the
                               reference and counts what they meet
 """
@@ -9,6 +11,7 @@ import random
 import re
 import sys
 from collections import Counter
+from pathlib import Path
 
 import counterexamples
 import reference
@@ -256,10 +259,10 @@ class Generator:
                 generation = self.rng.choice((1000, 1001, 7000, 10**8))
                 self.emit(self.plant_at(site, site, generation))
 
-    def text(self) -> bytes:
+    def text(self, lines: int) -> bytes:
         self.beginning()
         calls = (self.grid, self.plant, self.source, self.drop, self.report)
-        while len(self.lines) < LINES:
+        while len(self.lines) < lines:
             call = self.rng.choices(calls, (1, 2, 9, 2, 2))[0]
             line = call()
             if line is not None:
@@ -268,8 +271,14 @@ class Generator:
         return b'\n'.join(self.lines) + (b'' if self.chance(0.2) else b'\n')
 
 
-def random_input(seed: int) -> bytes:
-    return Generator(seed).text()
+def random_input(seed: int, lines: int = LINES) -> bytes:
+    """So many lines, and some more that mend the last report."""
+    return Generator(seed).text(lines)
+
+
+def full_input(seed: int) -> bytes:
+    """As many bytes as an input may have; the last line is cut."""
+    return random_input(seed, reference.INPUT_LIMIT // 30)[:reference.INPUT_LIMIT]
 
 
 # Inputs made by hand
@@ -336,6 +345,31 @@ FIELDS = (
 
 def limits() -> bytes:
     return joined(form.format(value) for form, limit in FIELDS for value in around(limit))
+
+
+# Within every limit, and with a decimal in every field that a form has.
+NUMBERED = ('(grid 1000000 hydro)',
+            '(plant 7 3 1000 (fuel 1000 43000 7410) (fuel 2000 1000 999))',
+            '(plant 0 0 5' + 4 * ' (fuel 0 1 0)' + ')',
+            '(source 31 project (captive 3) (none) (whole + 1000 500000))',
+            '(source 1 baseline (either 3) (loss 1000) (whole + 0 90000) (whole - 200 300))',
+            '(source 2 leakage (combined) (default20)' + 4 * ' (whole + 30 40000)' + ')',
+            '(drop source 30)', '(drop plant 6)')
+# Around the largest values of narrow fields, and of the most digits, or one too many.
+WIDE = (*(wrap + off for wrap in WRAPS for off in (-1, 0, 1, 5)), 10**17, LARGEST - 1,
+        LARGEST, LARGEST + 1, 10 * LARGEST + 9)
+ZEROS_BEFORE = ('00', '01', '0' * 17 + '1', '0' * 18, '0' * 18 + '1')
+
+
+def numbers_in_fields(values) -> bytes:
+    """Each field of each form holding each value, then a report, then the form as it was."""
+    lines = [*NUMBERED, '(report)']
+    for line in NUMBERED:
+        for field in re.finditer(r'\b[0-9]+\b', line):
+            for value in values:
+                edited = f'{line[:field.start()]}{value}{line[field.end():]}'
+                lines += [edited, '(report)', line]
+    return joined(lines)
 
 
 def generation_limits() -> bytes:
@@ -405,12 +439,28 @@ def counts() -> bytes:
 
 
 def line_lengths() -> bytes:
-    """The same entry at 255, 256 and 257 bytes: refused 2, 2 and 14."""
+    """The same entries at 255, 256 and 257 bytes: refused 2, 2 and 14."""
     lines = []
-    for length in (255, 256, 257):
-        line = '(plant 0 0 1000' + 18 * ' (fuel 1 1 1)' + ')'
-        lines.append(line.replace(' 1000', ' 1' + (length - len(line) + 3) * '0'))
+    for line in ('(plant 0 0 1000' + 18 * ' (fuel 1 1 1)' + ')',
+                 '(source 0 project (combined) (loss 1000)' + 15 * ' (whole + 0 1)' + ')'):
+        lines += [line.replace('1000', '1' + (length - len(line) + 3) * '0')
+                  for length in (255, 256, 257)]
     return joined(lines)
+
+
+def long_last_lines() -> list[bytes]:
+    """Each of these as a last line with its LF, without, and with a CR."""
+    lines = [line + b'\n' for line in line_lengths().splitlines()]
+    return [b'(report)\n' + line[:-1] + end for line in lines for end in (b'\n', b'', b'\r\n')]
+
+
+def odd_bytes() -> bytes:
+    """Each byte as a line, and before, within and after a form."""
+    lines = []
+    for byte in (bytes([value]) for value in range(256)):
+        lines += [byte, byte + b'(report)', b'(report' + byte + b')', b'(report)' + byte,
+                  b'(drop' + byte + b'plant 0)', b'(drop plant ' + byte + b')']
+    return b'\n'.join(lines)
 
 
 def source_precedence() -> bytes:
@@ -473,7 +523,8 @@ def sizes() -> list[bytes]:
     drops = b'(drop source 0)\n' * 4096  # 65,536 bytes
     return [b'', b'\n', b'\n\n', b'(report)', b'(report)\n', b'(report)\n\n', b'(report)\r\n',
             drops, drops[:-1], drops + b'\n', b'\n' * 65_536, b'\n' * 65_537,
-            b'(' * 65_536, b'(' * 65_537, b'(report)\n' * 7_281 + b'(report']
+            b'(' * 65_536, b'(' * 65_537, b'(report)\n' * 7_281 + b'(report', drops * 2,
+            drops * 16 + b'(report)\n', full_input(0), full_input(0) + b'\n', full_input(1)]
 
 
 def boundary_inputs() -> list[bytes]:
@@ -485,8 +536,31 @@ def boundary_inputs() -> list[bytes]:
         registers_at_rest(), register_pairs(), limits(), generation_limits(), alone_at_zero(),
         comparisons(),
         source_precedence(), report_precedence(), largest_report(), counts(),
-        line_lengths(), *malformed_by_place(),
+        line_lengths(), *long_last_lines(), odd_bytes(), *malformed_by_place(),
+        *(numbers_in_fields([value]) for value in WIDE), numbers_in_fields(ZEROS_BEFORE),
         *(counterexamples.text(make()) for make in counterexamples.CASES)]
+
+
+# For a fuzzer
+
+
+def words() -> set[str]:
+    """Parts of forms, and numbers at and around limits."""
+    lines = [*SAMPLES, *NUMBERED]
+    numbers = [value for _, limit in FIELDS for value in around(limit)]
+    return {*re.findall(r'\(?[a-z]+[0-9]*\)?', ' '.join(lines)), ') (', ' + ', ' - ',
+            *map(str, numbers), *(f'{register:08x}' for register in SPECIAL_REGISTERS)}
+
+
+def write_for_fuzzer(folder: Path):
+    """inputs/ has an input a file, and the file words the form that AFL++ reads."""
+    inputs = [listing(), joined(NUMBERED), report_precedence(), joined(SAMPLES), b'(report)',
+              *(counterexamples.text(make()) for make in counterexamples.CASES),
+              *(random_input(seed, 12) for seed in range(20))]
+    (folder / 'inputs').mkdir()
+    for number, data in enumerate(inputs):
+        (folder / 'inputs' / str(number)).write_bytes(data)
+    (folder / 'words').write_text(''.join(f'"{word}"\n' for word in sorted(words())))
 
 
 # The self-check
@@ -502,7 +576,8 @@ class Met:
         self.kinds = set()  # of the sources in reports given
         self.most_sources = 0
 
-    def run(self, data: bytes):
+    def run(self, data: bytes) -> bytes:
+        """The reference's output. Raises AssertionError where demand 3 fails."""
         output = reference.tally(data, on_report=self.report_given)
         answers = re.findall(rb'^(ok|refused [0-9]+|reduction)', output, re.MULTILINE)
         refusals = Counter(int(a.split()[1]) for a in answers if a.startswith(b'refused'))
@@ -512,6 +587,7 @@ class Met:
         self.mostly_malformed += 3 * refusals[14] >= len(answers) > 0
         self.sign_and_exponent |= {
             int(register, 16) >> 23 for register in re.findall(rb'\b[0-9a-f]{8}\b', data)}
+        return output
 
     def report_given(self, ledger: reference.Ledger, report: reference.Report):
         reference.check_demand_3(ledger, report)
@@ -530,6 +606,23 @@ class Met:
               f'{self.most_sources} sources')
 
 
+def missing(at_random: Met, by_hand: Met) -> list[str]:
+    """What the inputs should have met and did not."""
+    refusals = {*range(1, 13), 14}  # 13 cannot occur within the limits
+    # 3 sides by 3 losses by combined, griddefault and either with its two options;
+    # 3 sides by captive and captivedefault
+    kinds = 42
+    wanted = {
+        'every refusal but 13, at random': set(at_random.refusals) == refusals,
+        'every refusal but 13, by hand': set(by_hand.refusals) == refusals,
+        'a third of the reports given': at_random.given * 3 >= at_random.reports > 0,
+        'a third of the lines malformed in a tenth of the inputs':
+            at_random.mostly_malformed * 10 >= at_random.inputs,
+        'every kind of source reported': len(at_random.kinds) == kinds,
+        'every sign and exponent of a register': len(by_hand.sign_and_exponent) == 512}
+    return [what for what, met in wanted.items() if not met]
+
+
 def self_check(seeds: int = 300):
     at_random, by_hand = Met(), Met()
     for seed in range(seeds):
@@ -538,15 +631,7 @@ def self_check(seeds: int = 300):
         by_hand.run(data)
     at_random.show('at random')
     by_hand.show('by hand')
-    expected = {*range(1, 13), 14}
-    assert set(at_random.refusals) == expected, 'refusals met at random'
-    assert set(by_hand.refusals) == expected, 'refusals met by hand'
-    assert at_random.given * 3 >= at_random.reports, 'reports seldom given'
-    assert at_random.mostly_malformed * 10 >= seeds, 'malformed inputs seldom made'
-    # 3 sides by 3 losses by combined, griddefault and either with its two options;
-    # 3 sides by captive and captivedefault
-    assert len(at_random.kinds) == 42, 'not every kind of source reported'
-    assert len(by_hand.sign_and_exponent) == 512, 'not every sign and exponent met'
+    assert not missing(at_random, by_hand), missing(at_random, by_hand)
     assert random_input(1) == random_input(1) != random_input(2), 'not by seed'
 
 
@@ -555,5 +640,9 @@ if __name__ == '__main__':
         self_check()
     elif len(sys.argv) == 2 and sys.argv[1].isdecimal():
         sys.stdout.buffer.write(random_input(int(sys.argv[1])))
+    elif len(sys.argv) == 3 and sys.argv[1] == '--full' and sys.argv[2].isdecimal():
+        sys.stdout.buffer.write(full_input(int(sys.argv[2])))
+    elif len(sys.argv) == 3 and sys.argv[1] == '--fuzz':
+        write_for_fuzzer(Path(sys.argv[2]))
     else:
         sys.exit(__doc__)
