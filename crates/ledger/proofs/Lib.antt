@@ -2,6 +2,7 @@ pub mod Entries
 pub mod Sites
 pub mod Lists
 pub mod Sides
+pub mod Bounds
 pub mod Figures
 pub mod Demand3
 pub mod Examples

@@ -37,7 +37,7 @@ module _ {A : Type 0} (dir : Direction) (value : A → ℕ) (exact : A → Ratio
 
 -- ---- the reduction
 
-reduction-differ : (b p l : ℕ) → Differ (reduction b p l) b (p + l)
+pub reduction-differ : (b p l : ℕ) → Differ (reduction b p l) b (p + l)
 unfolding reduction
 reduction-differ b p l =
     let d : Differ (pos b -ℤ pos p) b (0 + p) = less-differ (pos b) b 0 p (omega arith) in

@@ -1,0 +1,5 @@
+pub mod Puts
+pub mod Lines
+pub mod Forms
+pub mod Replies
+pub mod Lengths

@@ -1,0 +1,69 @@
+-- A whole input and the whole output to it (document 01, "The text the program tally reads").
+use Prim.Native.Nat.{ℕ, _*_}
+use mathlib.Core.Bool.{cond}
+use mathlib.Core.List.{List, [], _∷_, _++_, map}
+use mathlib.Core.Option.{Option, none, some}
+use lib.Dec.{leb, eqb}
+use lib.ListN.{length}
+use Rattle.rounding.specs.Calls.{answers}
+use Rattle.text.specs.Word.{bytes}
+use Rattle.text.specs.Buffer.{putAt}
+use Rattle.ledger.specs.Report.{Reply, refusedWith}
+use Rattle.ledger.specs.Standing.{Call}
+use Rattle.ledger.specs.Operations.{newLedger, step, reply}
+use Rattle.forms.specs.Calls.{lineCall}
+use Rattle.answers.specs.Answers.{replyText}
+use Rattle.answers.specs.declared.Written.{Written}
+use Rattle.answers.specs.declared.Written.the-variants.{TooShort, Bytes}
+
+-- ---- "lines ended by LF (the last may lack it)": 10 is the LF
+
+abbrev pub onto : ℕ → List (List ℕ) → List (List ℕ)
+onto b [] = (b ∷ []) ∷ []
+onto b (l ∷ ls) = (b ∷ l) ∷ ls
+
+unfoldable pub lines : List ℕ → List (List ℕ)
+lines [] = []
+lines (b ∷ t) = cond (eqb b 10) ([] ∷ lines t) (onto b (lines t))
+
+-- ---- the answers: to the lines that are calls, those of the list of calls; to any other line, refusal 14
+
+unfoldable pub callsAmong : List (Option Call) → List Call
+callsAmong [] = []
+callsAmong (none ∷ rest) = callsAmong rest
+callsAmong (some c ∷ rest) = c ∷ callsAmong rest
+
+unfoldable pub lineReplies : List (Option Call) → List Reply → List Reply
+lineReplies [] rs = []
+lineReplies (none ∷ rest) rs = refusedWith 14 ∷ lineReplies rest rs
+lineReplies (some c ∷ rest) [] = []
+lineReplies (some c ∷ rest) (r ∷ rs) = r ∷ lineReplies rest rs
+
+-- The calls of an input, each of one line.
+abbrev pub lineCalls : List ℕ → List (Option Call)
+lineCalls input = map lineCall (lines input)
+
+abbrev pub inputCalls : List ℕ → List Call
+inputCalls input = callsAmong (lineCalls input)
+
+unfoldable pub repliesText : List Reply → List ℕ
+repliesText [] = []
+repliesText (r ∷ rs) = replyText r ++ repliesText rs
+
+-- "Input above 65,536 bytes prints only `refused 14`."
+unfoldable pub output : List ℕ → List ℕ
+output input =
+    cond (leb (length input) 65536)
+    (repliesText (lineReplies (lineCalls input) (answers step reply newLedger (inputCalls input))))
+    (bytes "refused 14\n")
+
+-- ---- a lent buffer: one that might be too short is refused, before anything is written
+
+abbrev pub needed : List ℕ → ℕ
+needed input = cond (leb (length input) 65536) (18 * length input) 11
+
+abbrev pub written : List ℕ → ℕ → Written
+written input room = cond (leb (needed input) room) (Bytes (length (output input))) TooShort
+
+abbrev pub bufferAfter : List ℕ → List ℕ → List ℕ
+bufferAfter d input = cond (leb (needed input) (length d)) (putAt d 0 (output input)) d

@@ -1,0 +1,73 @@
+-- Lines of document 01 and their like, computed. Assumes nothing.
+use Prim.Native.Nat.{ℕ}
+use Prim.Native.String.{String}
+use mathlib.Core.Path.{_≡_, refl}
+use mathlib.Core.List.{List, [], _∷_, _++_}
+use mathlib.Core.Option.{Option, none, some}
+use lib.ListN.{length, replicate}
+use Rattle.text.specs.Digits.{digitValue, leadingDigits, valueAfter}
+use Rattle.text.specs.Decimal.{isDecimal, decimalAt}
+use Rattle.text.specs.Register.{registerAt}
+use Rattle.text.specs.Word.{bytes}
+use Rattle.text.specs.Template.{pieceIn, numbersIn, templateIn}
+use Rattle.metering.specs.declared.Sign.the-variants.{Plus, Minus}
+use Rattle.emissions.specs.declared.GridKind.the-variants.{Thermal}
+use Rattle.emissions.specs.declared.Side.the-variants.{Project, Leakage, Baseline}
+use Rattle.emissions.specs.declared.Supply.the-variants.{Combined, Captive, CaptiveDefault}
+use Rattle.emissions.specs.declared.Loss.the-variants.{Nothing, Default20}
+use Rattle.forms.specs.Form.{whole, single, allText, Form, grid, plant, source, dropSource, dropPlant, report}
+use Rattle.forms.specs.Reading.{oneOf, manyWithin, kinds, sides, supplies, losses, meters, fuels, gridIn, plantIn, sourceIn, others, openingIn, isClosing, formIn, lineForm}
+
+-- A line, opened so that it computes.
+unfoldable pub read : String → Option Form
+unfolding lineForm formIn isClosing openingIn others sourceIn plantIn gridIn fuels meters losses supplies sides kinds manyWithin oneOf templateIn numbersIn pieceIn decimalAt registerAt isDecimal leadingDigits digitValue valueAfter
+read line = lineForm (bytes line)
+
+-- The five lines of the listing.
+pub listing : (read "(grid 812400 thermal)" ≡ some (grid 812400 Thermal))
+    × (read "(plant 0 1 7000 (fuel 1000 43000 74100))" ≡ some (plant 0 1 7000 (record { quantity = 1000; ncv = 43000; factor = 74100 } ∷ [])))
+    × (read "(source 0 project (combined) (default20) (whole + 0 1000001))" ≡ some (source 0 Project Combined Default20 (whole Plus 0 1000001 ∷ [])))
+    × (read "(source 1 baseline (captive 1) (none) (whole + 0 500003))" ≡ some (source 1 Baseline (Captive 1) Nothing (whole Plus 0 500003 ∷ [])))
+    × (read "(report)" ≡ some report)
+unfolding read
+listing = (refl, refl, refl, refl, refl)
+
+-- "(drop source N), (drop plant N)": the number is as written, also where no entry can have it.
+pub drops : (read "(drop source 31)" ≡ some (dropSource 31)) × (read "(drop plant 999999999999999999)" ≡ some (dropPlant 999999999999999999))
+unfolding read
+drops = (refl, refl)
+
+-- "Any count of fuel lines or meters, none included, is a form".
+pub any-count : (read "(plant 0 1 7000)" ≡ some (plant 0 1 7000 []))
+    × (read "(source 2 leakage (captivedefault) (none))" ≡ some (source 2 Leakage CaptiveDefault Nothing []))
+    × (read "(source 3 project (combined) (none) (whole + 1 2) (whole - 3 4) (single + 3f800000 42f6e979) (single - 00000001 80000000) (whole + 0 0))"
+    ≡ some (source 3 Project Combined Nothing (whole Plus 1 2 ∷ whole Minus 3 4 ∷ single Plus 0x3f800000 0x42f6e979 ∷ single Minus 1 0x80000000 ∷ whole Plus 0 0 ∷ [])))
+unfolding read
+any-count = (refl, refl, refl)
+
+-- No form: two spaces, a zero before other digits, 19 digits, an upper-case register, a space at the end, the end missing, an empty line.
+pub no-forms : (read "(grid  812400 thermal)" ≡ none)
+    × (read "(grid 0812400 thermal)" ≡ none)
+    × (read "(drop plant 1000000000000000000)" ≡ none)
+    × (read "(source 0 project (combined) (none) (single + 3F800000 42f6e979))" ≡ none)
+    × (read "(report) " ≡ none)
+    × (read "(report" ≡ none)
+    × (read "" ≡ none)
+unfolding read
+no-forms = (refl, refl, refl, refl, refl, refl, refl)
+
+-- "14 .. a line above 256 bytes without its LF": a form's text of 256 bytes, and one of a byte more.
+abbrev pub longText : String → List ℕ
+longText last =
+    bytes "(source 0 project (combined) (none)"
+    ++ (allText bytes (replicate 7 " (single + 42f6e979 42f6e979)") ++ (bytes " (whole + 1 " ++ (bytes last ++ bytes "))")))
+
+abbrev pub longSource : ℕ → Form
+longSource last = source 0 Project Combined Nothing (replicate 7 (single Plus 0x42f6e979 0x42f6e979) ++ (whole Plus 1 last ∷ []))
+
+pub longest : (length (longText "1000") ≡ 256)
+    × (lineForm (longText "1000") ≡ some (longSource 1000))
+    × (lineForm (longText "10000") ≡ none)
+    × (formIn (longText "10000") ≡ some (longSource 10000))
+unfolding read allText
+longest = (refl, refl, refl, refl)

@@ -1,0 +1,256 @@
+-- A number larger than its field is judged as the field's largest: each limit is below that. So the call in the box's fields is answered
+-- as the call of the form, and leaves the same ledger. Assumes nothing.
+use Prim.Native.Nat.{ℕ, zero, suc, _≤_, _<_}
+use mathlib.Core.Path.{_≡_, refl, sym, ap, _∙_}
+use mathlib.Core.Bool.{Bool, true, false, cond, _&&_}
+use mathlib.Core.List.{List, [], _∷_, _++_, map}
+use mathlib.Core.Option.{Option}
+use native.Mathlib.Omega.{arith}
+use lib.Dec.{leb}
+use lib.ListN.{length, take, replicate}
+use borrow.Author.Tests.{leb-true, leb-false, le-leb, lt-leb}
+use Rattle.rounding.proofs.Tests.{and-both}
+use Rattle.metering.specs.Energy.{judgedReadings, judgedMeters}
+use Rattle.metering.specs.declared.Meter.{Meter}
+use Rattle.metering.specs.declared.MetersJudged.the-variants as metersJudged
+use Rattle.rounding.specs.declared.Direction.{Direction}
+use Rattle.fuel.specs.Fuel.{withinLimits}
+use Rattle.fuel.specs.declared.FuelLine.{FuelLine}
+use Rattle.emissions.specs.Outcome.{Outcome, refused, given, refuseUnless}
+use Rattle.emissions.specs.Factor.{factorLimit, direction}
+use Rattle.emissions.specs.declared.GridEntry.{GridEntry}
+use Rattle.emissions.specs.declared.Supply.{Supply}
+use Rattle.emissions.specs.declared.Supply.the-variants.{Combined, GridDefault, Captive, CaptiveDefault, Either}
+use Rattle.emissions.specs.declared.Loss.{Loss}
+use Rattle.emissions.specs.declared.Loss.the-variants.{Nothing, Measured, Default20, Default3}
+use Rattle.ledger.specs.Judging.{gridJudged, linesOf, allWithinLimits, plantJudged, siteFits, lossFits, sourceJudged, dropJudged}
+use Rattle.ledger.specs.Standing.{whereGiven, acknowledged, answer}
+use Rattle.ledger.specs.Operations.{noPlant, noSource, recorded, withPlant, withSource, step, reply}
+use Rattle.ledger.specs.declared.Plant.{Plant}
+use Rattle.ledger.specs.declared.SourceEntry.{SourceEntry}
+use Rattle.ledger.specs.declared.Ledger.{Ledger}
+use Rattle.ledger.proofs.Entries.{plant-facts, source-facts, drop-facts}
+use Rattle.forms.specs.Form.{Form, grid, plant, source, dropSource, dropPlant, report}
+use Rattle.forms.specs.Calls.{noLine, fourOf, callOf, atMost, byteField, fittedSupply, fittedLoss, fittedLine, fittedPlant, fittedSource, fitted}
+
+-- ---- one number
+
+module _ (L : ℕ) where
+  -- A number that is within a limit is the same in its field.
+  within : (n : ℕ) → n ≤ L → atMost L n ≡ n
+  within n h = rw (le-leb n L h)
+
+  -- A limit below the field's largest number tells the same of both.
+  same-limit : (k n : ℕ) → k < L → leb (atMost L n) k ≡ leb n k
+  same-limit k n h = go (leb n L) refl
+    where
+      go : (t : Bool) → leb n L ≡ t → leb (cond t n L) k ≡ leb n k
+      go true e = refl
+      go false e = let m = leb-false n L e in lt-leb L k h ∙ sym (lt-leb n k (omega arith))
+
+  same-start : (k n : ℕ) → k ≤ L → leb k (atMost L n) ≡ leb k n
+  same-start k n h = go (leb n L) refl
+    where
+      go : (t : Bool) → leb n L ≡ t → leb k (cond t n L) ≡ leb k n
+      go true e = refl
+      go false e = let m = leb-false n L e in le-leb k L h ∙ sym (le-leb k n (omega arith))
+
+  -- A number that its limit lets through is unchanged.
+  unchanged : (k n : ℕ) → k ≤ L → leb n k ≡ true → atMost L n ≡ n
+  unchanged k n h e = let m = leb-true n k e in within n (omega arith)
+
+-- ---- a test and what follows from it
+
+both-same : (a' a b' b : Bool) → a' ≡ a → (a ≡ true → b' ≡ b) → (a' && b') ≡ (a && b)
+both-same a' true b' b e f = rw (e, f refl)
+both-same a' false b' b e f = rw e
+
+test-same : {A : Type 0} (n : ℕ) (t' t : Bool) (o' o : Outcome A) → t' ≡ t → (t ≡ true → o' ≡ o) → refuseUnless n t' o' ≡ refuseUnless n t o
+test-same n t' true o' o e f = rw (e, f refl)
+test-same n t' false o' o e f = rw e
+
+-- What is stored is the same where what is given is.
+stored-same : {A S : Type 0} {o' o : Outcome A} (f' f : A → S) (s : S) → o' ≡ o → ((a : A) → o ≡ given a → f' a ≡ f a)
+    → whereGiven o' f' s ≡ whereGiven o f s
+stored-same {A} {S} {o'} {o} f' f s e same = ap (λ (x : Outcome A). whereGiven x f' s) e ∙ go o same
+  where
+    go : (x : Outcome A) → ((a : A) → x ≡ given a → f' a ≡ f a) → whereGiven x f' s ≡ whereGiven x f s
+    go (refused n) same = refl
+    go (given a) same = same a refl
+
+-- ---- the grid
+
+grid-same : (g : GridEntry) → gridJudged (record { margin = atMost 4294967295 (g .margin); kind = g .kind }) ≡ gridJudged g
+unfolding gridJudged
+grid-same g =
+    test-same 2 _ (leb (g .margin) factorLimit) _ (given g) (same-limit 4294967295 factorLimit (g .margin) (omega arith))
+    (λ e. rw (unchanged 4294967295 factorLimit (g .margin) (omega arith) e))
+
+-- ---- a plant
+
+line-same : (l : FuelLine) → withinLimits (fittedLine l) ≡ withinLimits l
+unfolding withinLimits
+line-same l =
+    rw (
+      same-limit 4294967295 100000000 (l .quantity) (omega arith),
+      same-start 4294967295 1 (l .ncv) (omega arith),
+      same-limit 4294967295 150000 (l .ncv) (omega arith),
+      same-limit 4294967295 200000 (l .factor) (omega arith),
+    )
+
+lines-same : (c : ℕ) (ls : List FuelLine) → allWithinLimits (take c (map fittedLine ls)) ≡ allWithinLimits (take c ls)
+unfolding allWithinLimits
+lines-same zero ls = refl
+lines-same (suc c) [] = refl
+lines-same (suc c) (l ∷ ls) = rw (line-same l, lines-same c ls)
+
+line-unchanged : (l : FuelLine) → withinLimits l ≡ true → fittedLine l ≡ l
+unfolding withinLimits
+line-unchanged l h =
+    let p = and-both (leb (l .quantity) 100000000 && leb 1 (l .ncv) && leb (l .ncv) 150000) _ h in
+    let q = and-both (leb (l .quantity) 100000000 && leb 1 (l .ncv)) _ (p .0) in
+    let r = and-both (leb (l .quantity) 100000000) _ (q .0) in
+    rw (
+      unchanged 4294967295 100000000 (l .quantity) (omega arith) (r .0),
+      unchanged 4294967295 150000 (l .ncv) (omega arith) (q .1),
+      unchanged 4294967295 200000 (l .factor) (omega arith) (p .1),
+    )
+
+none-unchanged : (k m : ℕ) → map fittedLine (take k (replicate m noLine)) ≡ take k (replicate m noLine)
+none-unchanged zero m = refl
+none-unchanged (suc k) zero = refl
+none-unchanged (suc k) (suc m) = ap (λ (ls : List FuelLine). noLine ∷ ls) (none-unchanged k m)
+
+-- Lines that are within their limits, and empty ones after them.
+lines-unchanged : (k m : ℕ) (ls : List FuelLine) → length ls ≤ k → allWithinLimits (take (length ls) (take k (ls ++ replicate m noLine))) ≡ true
+    → map fittedLine (take k (ls ++ replicate m noLine)) ≡ take k (ls ++ replicate m noLine)
+unfolding allWithinLimits
+lines-unchanged k m [] h all = none-unchanged k m
+lines-unchanged zero m (l ∷ ls) h all = absurd (omega arith)
+lines-unchanged (suc k) m (l ∷ ls) h all =
+    let p = and-both (withinLimits l) _ all in
+    rw (line-unchanged l (p .0)) (ap (λ (t : List FuelLine). l ∷ t) (lines-unchanged k m ls (omega arith) (p .1)))
+
+module _ (n S G : ℕ) (ls : List FuelLine) where
+  -- The plant that a form enters.
+  abbrev written : Plant
+  written = record { site = S; generation = G; lines = fourOf noLine ls; count = length ls }
+
+  counted-same : leb (length ls) 4 ≡ true → allWithinLimits (linesOf (fittedPlant written)) ≡ allWithinLimits (linesOf written)
+  unfolding linesOf
+  counted-same e = rw (unchanged 255 4 (length ls) (omega arith) e) (lines-same (length ls) (fourOf noLine ls))
+
+  plant-unchanged : (leb n 7 && leb S 3) ≡ true → (leb (length ls) 4 && leb G 100000000 && allWithinLimits (linesOf written)) ≡ true
+      → fittedPlant written ≡ written
+  unfolding linesOf fourOf
+  plant-unchanged e h =
+      let p = and-both (leb (length ls) 4 && leb G 100000000) _ h in
+      let q = and-both (leb (length ls) 4) _ (p .0) in
+      rw (
+        unchanged 255 3 S (omega arith) (and-both (leb n 7) _ e .1),
+        unchanged 4294967295 100000000 G (omega arith) (q .1),
+        unchanged 255 4 (length ls) (omega arith) (q .0),
+        lines-unchanged 4 4 ls (leb-true (length ls) 4 (q .0)) (p .1),
+      )
+
+  plant-same : plantJudged (byteField n) (fittedPlant written) ≡ plantJudged n written
+  unfolding plantJudged
+  plant-same =
+      test-same 1 _ (leb n 7 && leb S 3) _ _
+      (both-same _ (leb n 7) _ (leb S 3) (same-limit 255 7 n (omega arith)) (λ h. same-limit 255 3 S (omega arith)))
+      (λ e.
+      test-same 2 _ (leb (length ls) 4 && leb G 100000000 && allWithinLimits (linesOf written)) _ (given written)
+      (both-same _ (leb (length ls) 4 && leb G 100000000) _ _
+      (both-same _ (leb (length ls) 4) _ (leb G 100000000)
+      (same-limit 255 4 (length ls) (omega arith)) (λ h. same-limit 4294967295 100000000 G (omega arith)))
+      (λ h. counted-same (and-both (leb (length ls) 4) _ h .0)))
+      (λ h. ap given (plant-unchanged e h)))
+
+-- ---- a source
+
+site-same : (s : Supply) → siteFits (fittedSupply s) ≡ siteFits s
+site-same Combined = refl
+site-same GridDefault = refl
+site-same (Captive S) = same-limit 255 3 S (omega arith)
+site-same CaptiveDefault = refl
+site-same (Either S) = same-limit 255 3 S (omega arith)
+
+supply-unchanged : (s : Supply) → siteFits s ≡ true → fittedSupply s ≡ s
+supply-unchanged Combined e = refl
+supply-unchanged GridDefault e = refl
+supply-unchanged (Captive S) e = ap Captive (unchanged 255 3 S (omega arith) e)
+supply-unchanged CaptiveDefault e = refl
+supply-unchanged (Either S) e = ap Either (unchanged 255 3 S (omega arith) e)
+
+loss-same : (l : Loss) → lossFits (fittedLoss l) ≡ lossFits l
+loss-same (Measured T) = same-limit 65535 5000 T (omega arith)
+loss-same Default20 = refl
+loss-same Default3 = refl
+loss-same Nothing = refl
+
+loss-unchanged : (l : Loss) → lossFits l ≡ true → fittedLoss l ≡ l
+loss-unchanged (Measured T) e = ap Measured (unchanged 65535 5000 T (omega arith) e)
+loss-unchanged Default20 e = refl
+loss-unchanged Default3 e = refl
+loss-unchanged Nothing e = refl
+
+meters-same : (dir : Direction) (c : ℕ) (ms : List Meter) → judgedMeters dir (byteField c) ms ≡ judgedMeters dir c ms
+unfolding judgedMeters
+meters-same dir c ms =
+    rw (same-start 255 1 c (omega arith), same-limit 255 4 c (omega arith)) (go (leb 1 c) (leb c 4) refl)
+  where
+    go : (a b : Bool) → leb c 4 ≡ b
+        → cond (a && b) (judgedReadings dir (take (byteField c) ms)) (metersJudged.Refused 2)
+        ≡ cond (a && b) (judgedReadings dir (take c ms)) (metersJudged.Refused 2)
+    go true true e = rw (unchanged 255 4 c (omega arith) e)
+    go true false e = refl
+    go false b e = refl
+
+source-same : (n : ℕ) (e : SourceEntry) → sourceJudged (byteField n) (fittedSource e) ≡ sourceJudged n e
+unfolding sourceJudged
+source-same n e =
+    test-same 1 _ (leb n 31 && siteFits (e .supply)) _ _
+    (both-same _ (leb n 31) _ (siteFits (e .supply)) (same-limit 255 31 n (omega arith)) (λ h. site-same (e .supply)))
+    (λ p.
+    test-same 2 _ (lossFits (e .loss)) _ _ (loss-same (e .loss))
+    (λ q.
+    rw (
+      supply-unchanged (e .supply) (and-both (leb n 31) _ p .1),
+      loss-unchanged (e .loss) q,
+      meters-same (direction (e .side)) (e .count) (e .meters),
+    )))
+
+-- ---- a drop
+
+drop-same : {A : Type 0} (last : ℕ) (place : ℕ → Option A) (n : ℕ) → last < 255 → dropJudged last place (byteField n) ≡ dropJudged last place n
+unfolding dropJudged
+drop-same last place n h =
+    test-same 1 _ (leb n last) _ _ (same-limit 255 last n h) (λ e. rw (unchanged 255 last n (omega arith) e))
+
+-- ---- the call of a form
+
+pub fitted-replies : (l : Ledger) (f : Form) → reply l (fitted (callOf f)) ≡ reply l (callOf f)
+unfolding reply fitted callOf answer
+fitted-replies l (grid F kind) = ap acknowledged (grid-same (record { margin = F; kind = kind }))
+fitted-replies l (plant N S G lines) = ap acknowledged (plant-same N S G lines)
+fitted-replies l (source N side supply loss meters) = ap acknowledged (source-same N _)
+fitted-replies l (dropSource N) = ap acknowledged (drop-same 31 (recorded l .source) N (omega arith))
+fitted-replies l (dropPlant N) = ap acknowledged (drop-same 7 (recorded l .plant) N (omega arith))
+fitted-replies l report = refl
+
+pub fitted-steps : (l : Ledger) (f : Form) → step l (fitted (callOf f)) ≡ step l (callOf f)
+unfolding step fitted callOf
+fitted-steps l (grid F kind) = stored-same _ _ l (grid-same (record { margin = F; kind = kind })) (λ a e. refl)
+fitted-steps l (plant N S G lines) =
+    stored-same _ (λ a. withPlant l N (record { stands = true; plant = a })) l (plant-same N S G lines)
+    (λ a e. rw (within 255 N (omega (arith, plant-facts N _ a e .1 .number))))
+fitted-steps l (source N side supply loss meters) =
+    stored-same _ (λ a. withSource l N (record { stands = true; source = a })) l (source-same N _)
+    (λ a e. rw (within 255 N (omega (arith, source-facts N _ a e .1 .number))))
+fitted-steps l (dropSource N) =
+    stored-same _ (λ a. withSource l N noSource) l (drop-same 31 (recorded l .source) N (omega arith))
+    (λ a e. rw (within 255 N (omega (arith, drop-facts 31 (recorded l .source) N a e))))
+fitted-steps l (dropPlant N) =
+    stored-same _ (λ a. withPlant l N noPlant) l (drop-same 7 (recorded l .plant) N (omega arith))
+    (λ a e. rw (within 255 N (omega (arith, drop-facts 7 (recorded l .plant) N a e))))
+fitted-steps l report = refl

@@ -1,0 +1,125 @@
+-- Laws of the parts of a form: each is read from its table exactly where its text stands. Assumes nothing.
+use mathlib.Core.Path.{_≡_, refl}
+use mathlib.Core.List.{List, [], _∷_, _++_}
+use mathlib.Core.Option.{some}
+use Prim.Native.Nat.{ℕ}
+use Rattle.text.specs.Digits.{leadingDigits, digitValue}
+use Rattle.text.specs.Template.{filled, placesOf, Read, pieceIn, numbersIn, templateIn}
+use Rattle.text.specs.Word.{bytes}
+use Rattle.text.proofs.Templates.{Parted}
+use Rattle.metering.specs.declared.Sign.the-variants.{Plus, Minus}
+use Rattle.fuel.specs.declared.FuelLine.{FuelLine}
+use Rattle.emissions.specs.declared.GridKind.{GridKind}
+use Rattle.emissions.specs.declared.GridKind.the-variants.{Thermal, Hydro}
+use Rattle.emissions.specs.declared.Side.{Side}
+use Rattle.emissions.specs.declared.Side.the-variants.{Project, Leakage, Baseline}
+use Rattle.emissions.specs.declared.Supply.{Supply}
+use Rattle.emissions.specs.declared.Supply.the-variants.{Combined, GridDefault, Captive, CaptiveDefault, Either}
+use Rattle.emissions.specs.declared.Loss.{Loss}
+use Rattle.emissions.specs.declared.Loss.the-variants.{Nothing, Measured, Default20, Default3}
+use Rattle.forms.specs.Form.{MeterForm, whole, single, kindText, sideText, supplyText, lossText, meterText, fuelText, allText, All, FuelWritable, SupplyWritable, LossWritable, MeterWritable}
+use Rattle.forms.specs.Reading.{oneOf, manyOf, kinds, sides, supplies, losses, meters, fuels}
+use Rattle.forms.proofs.Tables.{Stands, one-stands, this-row, later-row, many-stand, many-read-back}
+
+-- Kinds and sides have no number.
+abbrev pub Always : {A : Type 0} → A → Type 0
+Always a = Unit {0}
+
+-- ---- what is read is a part's text
+
+pub kind-stands : (t : List ℕ) (r : Read GridKind) → oneOf kinds t ≡ some r → Stands kindText Always t r
+unfolding kinds placesOf filled
+kind-stands = one-stands kindText Always kinds ((refl, tt), ((refl, tt), tt))
+
+pub side-stands : (t : List ℕ) (r : Read Side) → oneOf sides t ≡ some r → Stands sideText Always t r
+unfolding sides placesOf filled
+side-stands = one-stands sideText Always sides ((refl, tt), ((refl, tt), ((refl, tt), tt)))
+
+pub supply-stands : (t : List ℕ) (r : Read Supply) → oneOf supplies t ≡ some r → Stands supplyText SupplyWritable t r
+unfolding supplies placesOf filled
+supply-stands =
+    one-stands supplyText SupplyWritable supplies ((refl, tt), ((refl, tt), ((λ S h. (refl, h)), ((refl, tt), ((λ S h. (refl, h)), tt)))))
+
+pub loss-stands : (t : List ℕ) (r : Read Loss) → oneOf losses t ≡ some r → Stands lossText LossWritable t r
+unfolding losses placesOf filled
+loss-stands = one-stands lossText LossWritable losses ((λ T h. (refl, h)), ((refl, tt), ((refl, tt), ((refl, tt), tt))))
+
+meter-stands : (t : List ℕ) (r : Read MeterForm) → oneOf meters t ≡ some r → Stands meterText MeterWritable t r
+unfolding meters placesOf filled
+meter-stands =
+    one-stands meterText MeterWritable meters
+    ((λ m h n k. (refl, (h, k))), ((λ m h n k. (refl, (h, k))), ((λ m h n k. (refl, (h, k))), ((λ m h n k. (refl, (h, k))), tt))))
+
+fuel-stands : (t : List ℕ) (r : Read FuelLine) → oneOf fuels t ≡ some r → Stands fuelText FuelWritable t r
+unfolding fuels placesOf filled
+fuel-stands = one-stands fuelText FuelWritable fuels ((λ l h m i n k. (refl, (h, i, k))), tt)
+
+-- ---- a part's text is read as the part
+
+-- A row before the part's differs from its text before the first number, so that it computes to none; what follows a decimal is a space or
+-- a bracket.
+module _ (rest : List ℕ) where
+  pub kind-reads-back : (k : GridKind) → oneOf kinds (kindText k ++ rest) ≡ some (record { value = k; rest = rest })
+  unfolding kinds templateIn numbersIn pieceIn placesOf filled Parted
+  kind-reads-back Thermal = this-row _ _ [] rest tt tt
+  kind-reads-back Hydro = later-row _ _ _ refl (this-row _ _ [] rest tt tt)
+
+  pub side-reads-back : (s : Side) → oneOf sides (sideText s ++ rest) ≡ some (record { value = s; rest = rest })
+  unfolding sides templateIn numbersIn pieceIn placesOf filled Parted
+  side-reads-back Project = this-row _ _ [] rest tt tt
+  side-reads-back Leakage = later-row _ _ _ refl (this-row _ _ [] rest tt tt)
+  side-reads-back Baseline = later-row _ _ _ refl (later-row _ _ _ refl (this-row _ _ [] rest tt tt))
+
+  pub supply-reads-back : (s : Supply) → SupplyWritable s → oneOf supplies (supplyText s ++ rest) ≡ some (record { value = s; rest = rest })
+  unfolding supplies templateIn numbersIn pieceIn placesOf filled Parted leadingDigits digitValue
+  supply-reads-back Combined h = this-row _ _ [] rest tt tt
+  supply-reads-back GridDefault h = later-row _ _ _ refl (this-row _ _ [] rest tt tt)
+  supply-reads-back (Captive S) h = later-row _ _ _ refl (later-row _ _ _ refl (this-row _ _ (S ∷ []) rest (h, tt) (refl, tt)))
+  supply-reads-back CaptiveDefault h = later-row _ _ _ refl (later-row _ _ _ refl (later-row _ _ _ refl (this-row _ _ [] rest tt tt)))
+  supply-reads-back (Either S) h =
+      later-row _ _ _ refl (later-row _ _ _ refl (later-row _ _ _ refl (later-row _ _ _ refl (this-row _ _ (S ∷ []) rest (h, tt) (refl, tt)))))
+
+  pub loss-reads-back : (l : Loss) → LossWritable l → oneOf losses (lossText l ++ rest) ≡ some (record { value = l; rest = rest })
+  unfolding losses templateIn numbersIn pieceIn placesOf filled Parted leadingDigits digitValue
+  loss-reads-back (Measured T) h = this-row _ _ (T ∷ []) rest (h, tt) (refl, tt)
+  loss-reads-back Default20 h = later-row _ _ _ refl (this-row _ _ [] rest tt tt)
+  loss-reads-back Default3 h = later-row _ _ _ refl (later-row _ _ _ refl (this-row _ _ [] rest tt tt))
+  loss-reads-back Nothing h = later-row _ _ _ refl (later-row _ _ _ refl (later-row _ _ _ refl (this-row _ _ [] rest tt tt)))
+
+meter-reads-back : (m : MeterForm) (rest : List ℕ) → MeterWritable m → oneOf meters (meterText m ++ rest) ≡ some (record { value = m; rest = rest })
+unfolding meters templateIn numbersIn pieceIn placesOf filled Parted leadingDigits digitValue
+meter-reads-back (whole Plus m n) rest h = this-row _ _ (m ∷ n ∷ []) rest (h .0, (h .1, tt)) (refl, (refl, tt))
+meter-reads-back (whole Minus m n) rest h = later-row _ _ _ refl (this-row _ _ (m ∷ n ∷ []) rest (h .0, (h .1, tt)) (refl, (refl, tt)))
+meter-reads-back (single Plus m n) rest h =
+    later-row _ _ _ refl (later-row _ _ _ refl (this-row _ _ (m ∷ n ∷ []) rest (h .0, (h .1, tt)) tt))
+meter-reads-back (single Minus m n) rest h =
+    later-row _ _ _ refl (later-row _ _ _ refl (later-row _ _ _ refl (this-row _ _ (m ∷ n ∷ []) rest (h .0, (h .1, tt)) tt)))
+
+fuel-reads-back : (l : FuelLine) (rest : List ℕ) → FuelWritable l → oneOf fuels (fuelText l ++ rest) ≡ some (record { value = l; rest = rest })
+unfolding fuels placesOf filled Parted leadingDigits digitValue
+fuel-reads-back l rest h =
+    this-row _ _ (l .quantity ∷ l .ncv ∷ l .factor ∷ []) rest (h .0, (h .1, (h .2, tt))) (refl, (refl, (refl, tt)))
+
+-- ---- lists of parts, up to the bracket that closes their form
+
+pub meters-stand : (t : List ℕ) → Stands (allText meterText) (All MeterWritable) t (manyOf meters t)
+meters-stand = many-stand meterText MeterWritable meters meter-stands
+
+pub fuels-stand : (t : List ℕ) → Stands (allText fuelText) (All FuelWritable) t (manyOf fuels t)
+fuels-stand = many-stand fuelText FuelWritable fuels fuel-stands
+
+pub meters-read-back : (parts : List MeterForm) → All MeterWritable parts
+    → manyOf meters (allText meterText parts ++ bytes ")") ≡ record { value = parts; rest = bytes ")" }
+unfolding oneOf meters templateIn numbersIn pieceIn
+meters-read-back = many-read-back meterText MeterWritable meters meter-reads-back (bytes ")") refl
+
+pub fuels-read-back : (lines : List FuelLine) → All FuelWritable lines
+    → manyOf fuels (allText fuelText lines ++ bytes ")") ≡ record { value = lines; rest = bytes ")" }
+unfolding oneOf fuels templateIn numbersIn pieceIn
+fuels-read-back = many-read-back fuelText FuelWritable fuels fuel-reads-back (bytes ")") refl
+
+-- No digit follows the last number of a plant.
+pub fuels-parted : (lines : List FuelLine) → leadingDigits 10 (allText fuelText lines ++ bytes ")") ≡ []
+unfolding leadingDigits digitValue allText filled
+fuels-parted [] = refl
+fuels-parted (l ∷ lines) = refl

@@ -1,0 +1,89 @@
+-- `forms::read_opening` meets its contract: after each kind that is not read, those left give what the whole gives. Assumes nothing.
+use borrow.Author.Needs.{needs}
+use mathlib.Core.Path.{_≡_, sym, _∙_}
+use mathlib.Core.List.{List}
+use Prim.Native.Nat.{ℕ}
+use denote.Ref.{now}
+use Rattle.forms.specs.Reading.{orElse, oneOf, gridIn, plantIn, sourceIn, others, openingIn}
+use Rattle.forms.proofs.Lines.{read-first, read-next}
+use Rattle.forms.proofs.read_opening.Statement.{statement}
+use Rattle.forms.proofs.read_opening.Tie as tie
+
+abbrev text : tie.Start → List ℕ
+text p = now (p .args .line)
+
+read-grid-requires : tie.Need-read-grid-requires
+read-grid-requires c κs = search needs
+
+is-form-requires : tie.Need-is-form-requires
+is-form-requires c κs = search needs
+
+returns : tie.Need-returns
+unfolding openingIn
+returns c =
+    let s = text (c .before .before .before .before) in
+    read-first s (c .before .before .read-grid .result) (gridIn s) _ (c .before .before .read-grid .ensures) (sym (c .before .is-form .ensures) ∙ c .if1 .taken)
+
+no-grid : (p : tie.Else1) → let s = text (p .before .before .before .before) in openingIn s ≡ orElse (plantIn s) (orElse (sourceIn s) (oneOf others s))
+unfolding openingIn
+no-grid p =
+    let s = text (p .before .before .before .before) in
+    read-next s (p .before .before .read-grid .result) (gridIn s) _ (p .before .before .read-grid .ensures) (sym (p .before .is-form .ensures) ∙ p .if1 .left)
+
+read-plant-requires : tie.Need-read-plant-requires
+read-plant-requires c κs = search needs
+
+is-form-requires-2 : tie.Need-is-form-requires-2
+is-form-requires-2 c κs = search needs
+
+returns-2 : tie.Need-returns-2
+returns-2 c =
+    let s = text (c .before .before .before .before .before .before .before) in
+    rw (no-grid (c .before .before .before))
+    (read-first s (c .before .before .read-plant .result) (plantIn s) _ (c .before .before .read-plant .ensures) (sym (c .before .is-form2 .ensures) ∙ c .if2 .taken))
+
+no-plant : (p : tie.Else2) → let s = text (p .before .before .before .before .before .before .before) in openingIn s ≡ orElse (sourceIn s) (oneOf others s)
+no-plant p =
+    let s = text (p .before .before .before .before .before .before .before) in
+    no-grid (p .before .before .before)
+    ∙ read-next s (p .before .before .read-plant .result) (plantIn s) _ (p .before .before .read-plant .ensures) (sym (p .before .is-form2 .ensures) ∙ p .if2 .left)
+
+read-source-requires : tie.Need-read-source-requires
+read-source-requires c κs = search needs
+
+is-form-requires-3 : tie.Need-is-form-requires-3
+is-form-requires-3 c κs = search needs
+
+returns-3 : tie.Need-returns-3
+returns-3 c =
+    let s = text (c .before .before .before .before .before .before .before .before .before .before) in
+    rw (no-plant (c .before .before .before))
+    (read-first s (c .before .before .read-source .result) (sourceIn s) _ (c .before .before .read-source .ensures) (sym (c .before .is-form3 .ensures) ∙ c .if3 .taken))
+
+no-source : (p : tie.Else3) → let s = text (p .before .before .before .before .before .before .before .before .before .before) in openingIn s ≡ oneOf others s
+no-source p =
+    let s = text (p .before .before .before .before .before .before .before .before .before .before) in
+    no-plant (p .before .before .before)
+    ∙ read-next s (p .before .before .read-source .result) (sourceIn s) _ (p .before .before .read-source .ensures) (sym (p .before .is-form3 .ensures) ∙ p .if3 .left)
+
+read-other-requires : tie.Need-read-other-requires
+read-other-requires c κs = search needs
+
+returns-4 : tie.Need-returns-4
+returns-4 c = rw (no-source (c .before)) (c .read-other .ensures)
+
+pub read-opening-spec : {M : Type 1} → statement M
+read-opening-spec =
+    tie.close
+    (tie.spec
+    read-grid-requires
+    is-form-requires
+    returns
+    read-plant-requires
+    is-form-requires-2
+    returns-2
+    read-source-requires
+    is-form-requires-3
+    returns-3
+    read-other-requires
+    returns-4)

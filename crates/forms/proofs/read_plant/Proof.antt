@@ -1,0 +1,84 @@
+-- `forms::read_plant` meets its contract. Assumes nothing.
+use borrow.Author.Needs.{needs}
+use mathlib.Core.Path.{refl, sym, ap, _∙_}
+use denote.Ref.{now}
+use Rattle.text.specs.Template.{matchMeaning}
+use Rattle.forms.specs.Reading.{plantIn}
+use Rattle.forms.specs.Calls.{noLine, callOf, fittedLine, fitted}
+use Rattle.forms.proofs.Lists.{map-four}
+use Rattle.forms.proofs.read_plant.Statement.{statement}
+use Rattle.forms.proofs.read_plant.Tie as tie
+
+slice-aggregate-read-template : tie.Need-slice-aggregate-read-template
+slice-aggregate-read-template c = search needs
+
+read-template-requires : tie.Need-read-template-requires
+read-template-requires c κs = search needs
+
+enum-known-numbers : tie.Need-enum-known-numbers
+enum-known-numbers c = search needs
+
+enum-told : tie.Need-enum-told
+enum-told c = search needs
+
+no-form-requires : tie.Need-no-form-requires
+no-form-requires c κs = search needs
+
+returns : tie.Need-returns
+unfolding plantIn
+returns c =
+    let s = now (c .before .before .before .before .before .before .args .line) in
+    rw (c .no-form .ensures, sym (c .before .before .before .read-template .ensures) ∙ ap (matchMeaning s) (c .before .enum-told .given .1))
+
+read-fuels-requires : tie.Need-read-fuels-requires
+read-fuels-requires c κs = search needs
+
+plain-line-requires : tie.Need-plain-line-requires
+plain-line-requires c κs = search needs
+
+byte-field-requires : tie.Need-byte-field-requires
+byte-field-requires c κs = search needs
+
+word-field-requires : tie.Need-word-field-requires
+word-field-requires c κs = search needs
+
+byte-field-requires-2 : tie.Need-byte-field-requires-2
+byte-field-requires-2 c κs = search needs
+
+byte-field-requires-3 : tie.Need-byte-field-requires-3
+byte-field-requires-3 c κs = search needs
+
+returns-2 : tie.Need-returns-2
+unfolding plantIn callOf fitted
+returns-2 c =
+    let s = now (c .before .before .before .before .before .before .before .before .before .before .before .before .before .before .before .args .line) in
+    let f = c .before .before .before .before .before .before .before .before .read-fuels .ensures in
+    rw (
+      sym (c .before .before .before .before .before .before .before .before .before .before .before .before .read-template .ensures) ∙ ap (matchMeaning s) (c .before .before .before .before .before .before .before .before .before .before .numbers .given .1),
+      c .before .before .before .byte-field .ensures,
+      c .before .before .word-field .ensures,
+      c .before .byte-field2 .ensures,
+      c .byte-field3 .ensures,
+      f .0,
+      f .1 .0,
+      f .1 .1,
+      map-four fittedLine noLine _ refl,
+    )
+
+pub read-plant-spec : {M : Type 1} → statement M
+read-plant-spec =
+    tie.close
+    (tie.spec
+    slice-aggregate-read-template
+    read-template-requires
+    enum-known-numbers
+    enum-told
+    no-form-requires
+    returns
+    read-fuels-requires
+    plain-line-requires
+    byte-field-requires
+    word-field-requires
+    byte-field-requires-2
+    byte-field-requires-3
+    returns-2)

@@ -1,0 +1,137 @@
+-- The form that a line is read as. `form-is-text` shows that a line is read as a form exactly when it is that form's text, so that only
+-- the text of the forms need be believed.
+use Prim.Native.Nat.{ℕ, zero, suc}
+use Prim.Native.String.{String}
+use mathlib.Core.Bool.{Bool, false, cond}
+use mathlib.Core.List.{List, [], _∷_}
+use mathlib.Core.Option.{Option, none, some}
+use lib.Dec.{leb, eqb}
+use lib.ListN.{length}
+use Rattle.text.specs.Word.{bytes}
+use Rattle.text.specs.Template.{Read, onRead, mapRead, templateIn}
+use Rattle.text.specs.declared.Numbers.{Numbers}
+use Rattle.metering.specs.declared.Sign.the-variants.{Plus, Minus}
+use Rattle.fuel.specs.declared.FuelLine.{FuelLine}
+use Rattle.emissions.specs.declared.GridKind.{GridKind}
+use Rattle.emissions.specs.declared.GridKind.the-variants.{Thermal, Hydro}
+use Rattle.emissions.specs.declared.Side.{Side}
+use Rattle.emissions.specs.declared.Side.the-variants.{Project, Leakage, Baseline}
+use Rattle.emissions.specs.declared.Supply.{Supply}
+use Rattle.emissions.specs.declared.Supply.the-variants.{Combined, GridDefault, Captive, CaptiveDefault, Either}
+use Rattle.emissions.specs.declared.Loss.{Loss}
+use Rattle.emissions.specs.declared.Loss.the-variants.{Nothing, Measured, Default20, Default3}
+use Rattle.forms.specs.Form.{MeterForm, whole, single, Form, grid, plant, source, dropSource, dropPlant, report}
+
+-- ---- one of several templates, and any count of parts
+
+-- A template, and what its numbers stand for.
+pub record Row (A : Type 0) : Type 0 where
+  pub template : List ℕ
+  pub value : Numbers → A
+
+abbrev pub row : {A : Type 0} → String → (Numbers → A) → Row A
+row text value = record { template = bytes text; value = value }
+
+abbrev pub orElse : {A : Type 0} → Option A → Option A → Option A
+orElse none b = b
+orElse (some a) b = some a
+
+-- The first of the rows that the text begins with.
+unfoldable pub oneOf : {A : Type 0} → List (Row A) → List ℕ → Option (Read A)
+oneOf [] t = none
+oneOf (r ∷ rows) t = orElse (mapRead (r .value) (templateIn (r .template) t)) (oneOf rows t)
+
+abbrev pub followed : {A : Type 0} → List ℕ → Option (Read A) → (List ℕ → Read (List A)) → Read (List A)
+followed t none more = record { value = []; rest = t }
+followed t (some r) more = record { value = r .value ∷ more (r .rest) .value; rest = more (r .rest) .rest }
+
+-- As many of the rows as the text begins with, one after the other; a text has no more of them than bytes.
+unfoldable pub manyWithin : {A : Type 0} → List (Row A) → ℕ → List ℕ → Read (List A)
+manyWithin rows zero t = record { value = []; rest = t }
+manyWithin rows (suc most) t = followed t (oneOf rows t) (manyWithin rows most)
+
+abbrev pub manyOf : {A : Type 0} → List (Row A) → List ℕ → Read (List A)
+manyOf rows t = manyWithin rows (length t) t
+
+-- ---- the parts
+
+unfoldable pub kinds : List (Row GridKind)
+kinds = row "thermal" (λ n. Thermal) ∷ row "hydro" (λ n. Hydro) ∷ []
+
+unfoldable pub sides : List (Row Side)
+sides = row "project" (λ n. Project) ∷ row "leakage" (λ n. Leakage) ∷ row "baseline" (λ n. Baseline) ∷ []
+
+unfoldable pub supplies : List (Row Supply)
+supplies =
+    row " (combined)" (λ n. Combined)
+    ∷ row " (griddefault)" (λ n. GridDefault)
+    ∷ row " (captive #)" (λ n. Captive (n .first))
+    ∷ row " (captivedefault)" (λ n. CaptiveDefault)
+    ∷ row " (either #)" (λ n. Either (n .first))
+    ∷ []
+
+unfoldable pub losses : List (Row Loss)
+losses =
+    row " (loss #)" (λ n. Measured (n .first))
+    ∷ row " (default20)" (λ n. Default20)
+    ∷ row " (default3)" (λ n. Default3)
+    ∷ row " (none)" (λ n. Nothing)
+    ∷ []
+
+unfoldable pub meters : List (Row MeterForm)
+meters =
+    row " (whole + # #)" (λ n. whole Plus (n .first) (n .second))
+    ∷ row " (whole - # #)" (λ n. whole Minus (n .first) (n .second))
+    ∷ row " (single + % %)" (λ n. single Plus (n .first) (n .second))
+    ∷ row " (single - % %)" (λ n. single Minus (n .first) (n .second))
+    ∷ []
+
+unfoldable pub fuels : List (Row FuelLine)
+fuels = row " (fuel # # #)" (λ n. record { quantity = n .first; ncv = n .second; factor = n .third }) ∷ []
+
+-- ---- what a form opens with
+
+unfoldable pub gridIn : List ℕ → Option (Read Form)
+gridIn t = onRead (templateIn (bytes "(grid # ") t) (λ n t1. mapRead (grid (n .first)) (oneOf kinds t1))
+
+abbrev pub withLines : Numbers → Read (List FuelLine) → Read Form
+withLines n r = record { value = plant (n .first) (n .second) (n .third) (r .value); rest = r .rest }
+
+unfoldable pub plantIn : List ℕ → Option (Read Form)
+plantIn t = onRead (templateIn (bytes "(plant # # #") t) (λ n t1. some (withLines n (manyOf fuels t1)))
+
+abbrev pub withMeters : ℕ → Side → Supply → Loss → Read (List MeterForm) → Read Form
+withMeters N side supply loss r = record { value = source N side supply loss (r .value); rest = r .rest }
+
+unfoldable pub sourceIn : List ℕ → Option (Read Form)
+sourceIn t =
+    onRead (templateIn (bytes "(source # ") t) (λ n t1.
+    onRead (oneOf sides t1) (λ side t2.
+    onRead (oneOf supplies t2) (λ supply t3.
+    onRead (oneOf losses t3) (λ loss t4.
+    some (withMeters (n .first) side supply loss (manyOf meters t4))))))
+
+unfoldable pub others : List (Row Form)
+others =
+    row "(drop source #" (λ n. dropSource (n .first))
+    ∷ row "(drop plant #" (λ n. dropPlant (n .first))
+    ∷ row "(report" (λ n. report)
+    ∷ []
+
+unfoldable pub openingIn : List ℕ → Option (Read Form)
+openingIn t = orElse (gridIn t) (orElse (plantIn t) (orElse (sourceIn t) (oneOf others t)))
+
+-- ---- a line
+
+-- Whether the bracket that closes a form is all that is left.
+unfoldable pub isClosing : List ℕ → Bool
+isClosing [] = false
+isClosing (b ∷ []) = eqb b 41
+isClosing (b ∷ c ∷ t) = false
+
+unfoldable pub formIn : List ℕ → Option Form
+formIn t = onRead (openingIn t) (λ f rest. cond (isClosing rest) (some f) none)
+
+-- "14 .. a line above 256 bytes without its LF".
+unfoldable pub lineForm : List ℕ → Option Form
+lineForm line = cond (leb (length line) 256) (formIn line) none
