@@ -3,3 +3,4 @@ pub mod Lines
 pub mod Forms
 pub mod Replies
 pub mod Lengths
+pub mod Demand3

@@ -50,12 +50,13 @@ unfoldable pub repliesText : List Reply → List ℕ
 repliesText [] = []
 repliesText (r ∷ rs) = replyText r ++ repliesText rs
 
+-- The answers to the lines, from a new ledger.
+abbrev pub inputReplies : List ℕ → List Reply
+inputReplies input = lineReplies (lineCalls input) (answers step reply newLedger (inputCalls input))
+
 -- "Input above 65,536 bytes prints only `refused 14`."
 unfoldable pub output : List ℕ → List ℕ
-output input =
-    cond (leb (length input) 65536)
-    (repliesText (lineReplies (lineCalls input) (answers step reply newLedger (inputCalls input))))
-    (bytes "refused 14\n")
+output input = cond (leb (length input) 65536) (repliesText (inputReplies input)) (bytes "refused 14\n")
 
 -- ---- a lent buffer: one that might be too short is refused, before anything is written
 

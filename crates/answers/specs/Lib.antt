@@ -1,3 +1,4 @@
 pub mod Answers
 pub mod Input
+pub mod Claim
 pub mod Steps
