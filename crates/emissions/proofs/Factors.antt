@@ -61,7 +61,7 @@ low-limit (Entered g) = go (g .kind)
     go Hydro = omega arith
 
 -- A default of the grid is one of three numbers.
-default-limit : (grid : Grid) (c : Consumption) (F : ℕ) → gridDefault grid c ≡ given F → F ≤ factorLimit
+pub default-limit : (grid : Grid) (c : Consumption) (F : ℕ) → gridDefault grid c ≡ given F → F ≤ factorLimit
 unfolding gridDefault
 default-limit grid c F e =
     first (eqb (c .baselines) 0 || ltb (c .baseline) (c .project)) (eqb (c .projects) 0 || ltb (c .project) (c .baseline)) e
@@ -74,7 +74,7 @@ default-limit grid c F e =
     first true u h = omega (arith, given-is h)
     first false u h = second u h
 
-captive-default-limit : (dir : Direction) → captiveDefault dir ≤ factorLimit
+pub captive-default-limit : (dir : Direction) → captiveDefault dir ≤ factorLimit
 captive-default-limit Up = omega arith
 captive-default-limit Down = omega arith
 

@@ -3,3 +3,4 @@ pub mod Factor
 pub mod Loss
 pub mod Figure
 pub mod Answers
+pub mod Steps

@@ -1,15 +1,13 @@
--- The report's walk over the sources: the factor of each supply and its limit, the figure of a source, and what is left of the walk at each
--- number. Assumes nothing.
+-- The report's walk over the sources: the figure of a source, and what is left of the walk at each number. Assumes nothing.
 use Prim.Native.Nat.{ℕ, zero, suc, _+_, _-_, _*_, _≤_, _<_}
 use mathlib.Core.Path.{_≡_, refl, sym, ap, subst, _∙_}
-use mathlib.Core.Bool.{Bool, true, false, cond, _&&_}
+use mathlib.Core.Bool.{Bool, true, _&&_}
 use mathlib.Core.List.{List, [], _∷_}
 use mathlib.Core.Option.{Option, none, some}
 use mathlib.Core.Logic.{inl, inr}
 use native.Mathlib.Nat.{mul-le-mul-right, eq-or-lt-of-le}
 use native.Mathlib.Numerals.{add-one}
 use native.Mathlib.Omega.{arith}
-use lib.Dec.{leb}
 use borrow.Author.Tests.{leb-true}
 use Rattle.rounding.specs.Divided.{sum}
 use Rattle.rounding.specs.declared.Direction.{Direction}
@@ -17,8 +15,7 @@ use Rattle.rounding.proofs.Divided.{divided-at-most}
 use Rattle.rounding.proofs.Tests.{and-both}
 use Rattle.metering.specs.Reading.{limit}
 use Rattle.emissions.specs.Outcome.{Outcome, refused, given, andThen}
-use Rattle.emissions.specs.Factor.{direction, factorLimit, isEntered, margin, gridDefault, captiveJudged, Site, captiveFactor, captiveDefault}
-use Rattle.emissions.specs.Factor.{prefersCaptive, Choice, combined, default, captive, factorOf, withGrid, atSite, chosen}
+use Rattle.emissions.specs.Factor.{direction, factorLimit, Choice, factorOf, chosen}
 use Rattle.emissions.specs.Loss.{lossOf}
 use Rattle.emissions.specs.Figure.{energyWithLosses, gramsOf, figureOf}
 use Rattle.emissions.specs.Figure as figure
@@ -29,17 +26,15 @@ use Rattle.emissions.specs.declared.Loss.{Loss}
 use Rattle.emissions.specs.declared.Loss.the-variants.{Nothing, Measured, Default20, Default3}
 use Rattle.emissions.specs.declared.Side.{Side}
 use Rattle.emissions.specs.declared.Side.the-variants.{Project, Leakage, Baseline}
-use Rattle.emissions.specs.declared.Supply.{Supply}
-use Rattle.emissions.specs.declared.Supply.the-variants.{Combined, GridDefault, Captive, CaptiveDefault, Either}
-use Rattle.emissions.proofs.Outcomes.{never-given, given-is, test-held, then-given}
-use Rattle.emissions.proofs.Factors.{GridSound, chosen-sound}
+use Rattle.emissions.proofs.Outcomes.{never-given, given-is, then-given}
+use Rattle.emissions.proofs.Factors.{GridSound}
 use Rattle.emissions.proofs.Losses.{loss-limit}
 use Rattle.emissions.proofs.Figures.{energy-limit}
 use Rattle.ledger.specs.Judging.{siteFits, lossFits, lossMatches}
 use Rattle.ledger.specs.Operations.{gridIntact, allIntact, sourceIntact}
 use Rattle.ledger.specs.Report.{Books, Numbered, listed, standing, those, siteOf, sourceFigure}
 use Rattle.ledger.specs.Report.{Figured, Figures, declined, figured, withFigure, figuresFrom, ofSide}
-use Rattle.ledger.specs.Steps.{sourcePlace, sitePlants, totalsOf, factorAt, eitherAt, figureAt, parts}
+use Rattle.ledger.specs.Steps.{sourcePlace, sitePlants, totalsOf, factorAt, figureAt, parts}
 use Rattle.ledger.specs.Steps.{noSums, oneMore, withGrams, SideBounded, Bounded, sideSum, walkedOf, booksOf}
 use Rattle.ledger.specs.declared.Plant.{Plant}
 use Rattle.ledger.specs.declared.Source.{Source}
@@ -51,126 +46,13 @@ use Rattle.ledger.specs.declared.report.Sums.{Sums}
 use Rattle.ledger.specs.declared.report.Totals.{Totals}
 use Rattle.ledger.specs.declared.report.Walked.{Walked}
 use Rattle.ledger.specs.declared.report.Walked.the-variants as walked
-use Rattle.ledger.proofs.Lists.{numbered, never-some}
-use Rattle.ledger.proofs.Sites.{site-sound}
-
--- ---- the factor of a supply
-
--- An equation of what follows holds behind the grid's test.
-behind-grid : {A B : Type 0} (grid : Grid) (o : Outcome B) (p : Outcome A) (k : A → Outcome B) → o ≡ andThen p k
-    → withGrid grid o ≡ andThen (withGrid grid p) k
-behind-grid Absent o p k e = refl
-behind-grid (Entered g) o p k e = e
-
--- A captive factor that is given is the site's, within the limit.
-site-factor : (dir : Direction) (s : Site) (F : ℕ) → atSite dir s ≡ given F → (F ≡ captiveFactor dir s) × (F ≤ factorLimit)
-unfolding captiveJudged captiveFactor
-site-factor dir s F e =
-    let p = test-held 9 (leb 1000 (s .generation)) _ e in
-    let q = test-held 10 (leb (captiveFactor dir s) factorLimit) _ (p .1) in
-    (sym (given-is (q .1)), subst (λ (n : ℕ). n ≤ factorLimit) (given-is (q .1)) (leb-true _ _ (q .0)))
-
-module _ (dir : Direction) (grid : Grid) (plants : List (Numbered Plant)) (c : Consumption) where
-  abbrev factor : Choice → Outcome ℕ
-  factor ch = given (factorOf dir grid (siteOf plants) ch)
-
-  -- The factor of each supply, as the code asks for it.
-  pub at-combined : withGrid grid (given (margin dir grid)) ≡ factorAt dir grid plants c Combined
-  unfolding chosen factorOf
-  at-combined = behind-grid grid _ _ factor refl
-
-  pub at-grid-default : withGrid grid (gridDefault grid c) ≡ factorAt dir grid plants c GridDefault
-  unfolding chosen factorOf
-  at-grid-default = behind-grid grid _ _ factor (go (gridDefault grid c))
-    where
-      go : (o : Outcome ℕ) → o ≡ andThen (andThen o (λ F. given (default F))) factor
-      go (refused n) = refl
-      go (given F) = refl
-
-  pub at-captive : (S : ℕ) → atSite dir (siteOf plants S) ≡ factorAt dir grid plants c (Captive S)
-  unfolding chosen factorOf
-  at-captive S = go (atSite dir (siteOf plants S)) (λ F e. site-factor dir (siteOf plants S) F e .0)
-    where
-      go : (o : Outcome ℕ) → ((F : ℕ) → o ≡ given F → F ≡ captiveFactor dir (siteOf plants S))
-          → o ≡ andThen (andThen o (λ F. given (captive S))) factor
-      go (refused n) h = refl
-      go (given F) h = ap given (h F refl)
-
-  pub at-captive-default : given (captiveDefault dir) ≡ factorAt dir grid plants c CaptiveDefault
-  unfolding chosen factorOf
-  at-captive-default = refl
-
-  pub at-either : (S : ℕ) → eitherAt dir grid plants S ≡ factorAt dir grid plants c (Either S)
-  unfolding chosen factorOf
-  at-either S = behind-grid grid _ _ factor (go (atSite dir (siteOf plants S)) (λ F e. site-factor dir (siteOf plants S) F e .0))
-    where
-      pick : (t : Bool) (F : ℕ) → F ≡ captiveFactor dir (siteOf plants S)
-          → cond t F (margin dir grid) ≡ factorOf dir grid (siteOf plants) (cond t (captive S) combined)
-      pick true F e = e
-      pick false F e = refl
-
-      go : (o : Outcome ℕ) → ((F : ℕ) → o ≡ given F → F ≡ captiveFactor dir (siteOf plants S))
-          → andThen o (λ F. given (cond (prefersCaptive dir (margin dir grid) F) F (margin dir grid)))
-          ≡ andThen (andThen o (λ F. given (cond (prefersCaptive dir (margin dir grid) F) (captive S) combined))) factor
-      go (refused n) h = refl
-      go (given F) h = ap given (pick (prefersCaptive dir (margin dir grid) F) F (h F refl))
-
--- ---- its limit
-
-grid-sound : (grid : Grid) → gridIntact grid ≡ true → GridSound grid
-grid-sound Absent h = tt
-grid-sound (Entered g) h = leb-true _ _ h
-
-margin-limit : (dir : Direction) (grid : Grid) → gridIntact grid ≡ true → margin dir grid ≤ factorLimit
-unfolding margin
-margin-limit dir Absent h = omega arith
-margin-limit dir (Entered g) h = leb-true _ _ h
-
-module _ (dir : Direction) (grid : Grid) (c : Consumption) (h : gridIntact grid ≡ true) where
-  abbrev nowhere : List (Numbered Plant)
-  nowhere = standing (λ (n : ℕ). none) 0 8
-
-  -- Without plants every site is sound, so that each chosen factor is within its limit.
-  plain-limit : (s : Supply) (F : ℕ) → factorAt dir grid nowhere c s ≡ given F → F ≤ factorLimit
-  plain-limit s F e =
-      let p = then-given (chosen dir grid (siteOf nowhere) c s) (λ ch. given (factorOf dir grid (siteOf nowhere) ch)) e in
-      subst (λ (n : ℕ). n ≤ factorLimit) (given-is (p .2))
-      (chosen-sound dir grid (siteOf nowhere) c (grid-sound grid h) (site-sound (λ n. none) (λ n q z. absurd (never-some z))) s (p .0) (p .1) .limit)
-
-  -- A factor that comes from no site is the same without plants.
-  pub factor-limit : (plants : List (Numbered Plant)) (s : Supply) (F : ℕ) → factorAt dir grid plants c s ≡ given F → F ≤ factorLimit
-  factor-limit plants Combined F e = plain-limit Combined F (sym (at-combined dir grid nowhere c) ∙ at-combined dir grid plants c ∙ e)
-  factor-limit plants GridDefault F e = plain-limit GridDefault F (sym (at-grid-default dir grid nowhere c) ∙ at-grid-default dir grid plants c ∙ e)
-  factor-limit plants (Captive S) F e = site-factor dir (siteOf plants S) F (at-captive dir grid plants c S ∙ e) .1
-  factor-limit plants CaptiveDefault F e =
-      plain-limit CaptiveDefault F (sym (at-captive-default dir grid nowhere c) ∙ at-captive-default dir grid plants c ∙ e)
-  factor-limit plants (Either S) F e =
-      let p = test-held 8 (isEntered grid) _ (at-either dir grid plants c S ∙ e) in
-      let q = then-given (atSite dir (siteOf plants S)) _ (p .1) in
-      go (prefersCaptive dir (margin dir grid) (q .0)) (q .0) (site-factor dir (siteOf plants S) (q .0) (q .1) .1) (q .2)
-    where
-      go : (t : Bool) (n : ℕ) → n ≤ factorLimit → given (cond t n (margin dir grid)) ≡ given F → F ≤ factorLimit
-      go true n l r = omega (arith, given-is r)
-      go false n l r = omega (arith, margin-limit dir grid h, given-is r)
-
--- ---- an either supply
-
-module _ (dir : Direction) (grid : Grid) (plants : List (Numbered Plant)) (S : ℕ) where
-  pub no-margin : (n : ℕ) → withGrid grid (given (margin dir grid)) ≡ refused n → refused n ≡ eitherAt dir grid plants S
-  no-margin n e = go grid (margin dir grid) _ e
-    where
-      go : (g : Grid) (M : ℕ) (o : Outcome ℕ) → withGrid g (given M) ≡ refused n → refused n ≡ withGrid g o
-      go Absent M o e = sym e
-      go (Entered g) M o e = absurd (never-given (sym e))
-
-  module _ (M : ℕ) (m : withGrid grid (given (margin dir grid)) ≡ given M) where
-    pub no-captive : (n : ℕ) → atSite dir (siteOf plants S) ≡ refused n → refused n ≡ eitherAt dir grid plants S
-    no-captive n e = simp (test-held 8 (isEntered grid) _ m .0, e)
-
-    pub both-factors : (F : ℕ) → atSite dir (siteOf plants S) ≡ given F → given (cond (prefersCaptive dir M F) F M) ≡ eitherAt dir grid plants S
-    both-factors F e = let p = test-held 8 (isEntered grid) (given (margin dir grid)) m in simp (p .0, e, given-is (p .1))
+use Rattle.ledger.proofs.Lists.{numbered}
 
 -- ---- the figure of a source
+
+pub grid-sound : (grid : Grid) → gridIntact grid ≡ true → GridSound grid
+grid-sound Absent h = tt
+grid-sound (Entered g) h = leb-true _ _ h
 
 -- What an intact source has: a loss and an energy within their limits.
 pub source-fits : (s : Source) → sourceIntact (some s) ≡ true → (lossFits (s .loss) ≡ true) × (s .energy ≤ limit)

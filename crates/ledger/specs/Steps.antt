@@ -10,7 +10,7 @@ use lib.IntN.{ℤ}
 use Rattle.rounding.specs.declared.Direction.{Direction}
 use Rattle.rounding.specs.declared.Direction.the-variants.{Up, Down}
 use Rattle.emissions.specs.Outcome.{Outcome, refused, given, andThen}
-use Rattle.emissions.specs.Factor.{direction, margin, prefersCaptive, withGrid, atSite, chosen, factorOf}
+use Rattle.emissions.specs.Factor.{direction, chosen, factorOf}
 use Rattle.emissions.specs.Loss.{lossOf}
 use Rattle.emissions.specs.Figure as figure
 use Rattle.emissions.specs.declared.Consumption.{Consumption}
@@ -101,12 +101,6 @@ siteWith S dir s o = record { milligrams = s .milligrams + addedAt S (plantMilli
 abbrev pub factorAt : Direction → Grid → List (Numbered Plant) → Consumption → Supply → Outcome ℕ
 factorAt dir grid plants c supply =
     andThen (chosen dir grid (siteOf plants) c supply) (λ ch. given (factorOf dir grid (siteOf plants) ch))
-
--- The factor of an either supply.
-abbrev pub eitherAt : Direction → Grid → List (Numbered Plant) → ℕ → Outcome ℕ
-eitherAt dir grid plants S =
-    withGrid grid
-    (andThen (atSite dir (siteOf plants S)) (λ F. given (cond (prefersCaptive dir (margin dir grid) F) F (margin dir grid))))
 
 -- The figure of a source by the totals.
 abbrev pub figureAt : Grid → List (Numbered Plant) → Totals → Source → Outcome figure.Figure

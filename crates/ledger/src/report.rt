@@ -4,12 +4,13 @@ ghost use mathlib.Core.Path.{_≡_};
 ghost use mathlib.Core.Bool.{true};
 ghost use Prim.Native.Nat.{_+_, _*_, _≤_, _<_};
 ghost use Rattle.emissions.specs.Answers.{factorMeaning};
-ghost use Rattle.emissions.specs.Factor.{direction, captiveJudged};
+ghost use Rattle.emissions.specs.Factor.{direction, atSite};
+ghost use Rattle.emissions.specs.Steps.{siteNamed, atNamed};
 ghost use Rattle.ledger.specs.Report.{comparesFactor, comparesLoss, plantMilligrams, siteOf, figuresFrom, sourcesOf, reportOf};
 ghost use Rattle.ledger.specs.Operations.{plantIn, sourceIn, plantIntact, sourceIntact, gridIntact, allIntact, reply};
 ghost use Rattle.ledger.specs.Standing.{report};
 ghost use mathlib.Core.Option.{some};
-ghost use Rattle.ledger.specs.Steps.{plantPlace, sourcePlace, sitePlants, share, joined, Small, totalsWith, totalsOf, siteWith, factorAt, eitherAt, figureAt, parts, figureMeaning, FigureWithin, figureRefusal, noSums, withGrams, Bounded, walkedOf, booksOf, sideMeaning, sideFrom, reductionOf, reportedOf, reportMeaning};
+ghost use Rattle.ledger.specs.Steps.{plantPlace, sourcePlace, sitePlants, share, joined, Small, totalsWith, totalsOf, siteWith, figureAt, parts, figureMeaning, FigureWithin, figureRefusal, noSums, withGrams, Bounded, walkedOf, booksOf, sideMeaning, sideFrom, reductionOf, reportedOf, reportMeaning};
 use crate::Answer;
 use crate::Ledger;
 use crate::Plant;
@@ -21,6 +22,7 @@ use emissions::FactorJudged;
 use emissions::Grid;
 use emissions::LossJudged;
 use emissions::Side;
+use emissions::SiteNamed;
 use emissions::Supply;
 use fuel::Milligrams;
 use metering::Reading;
@@ -270,51 +272,22 @@ fn site_sums(plants: [PlantRecord; 8], site: u8, direction: Direction) -> SiteSu
 // The captive factor of a site in a direction, or refusal 9 or 10.
 fn site_factor(plants: [PlantRecord; 8], site: u8, direction: Direction) -> FactorJudged
     requires { ⌜ allIntact plantIntact (plantPlace plants) 8 ≡ true ⌝ }
-    ensures { λ r. ⌜ factorMeaning r ≡ captiveJudged direction (siteOf (sitePlants plants) site .milligrams direction) (siteOf (sitePlants plants) site .generation) ⌝ }
+    ensures { λ r. ⌜ factorMeaning r ≡ atSite direction (siteOf (sitePlants plants) site) ⌝ }
 {
     let sums = site_sums(plants, site, direction);
     emissions::captive_factor(direction, sums.milligrams, sums.generation)
 }
 
-// The factor of an either supply: the grid's and the site's are both asked for, in this order.
-fn either_factor(
-    grid: Grid,
-    plants: [PlantRecord; 8],
-    site: u8,
-    direction: Direction,
-) -> FactorJudged
+// The captive factor of the site that a supply names, or refusal 9 or 10; where it names none, 9.
+fn named_site_factor(plants: [PlantRecord; 8], supply: Supply, direction: Direction) -> FactorJudged
     requires { ⌜ allIntact plantIntact (plantPlace plants) 8 ≡ true ⌝ }
-    ensures { λ r. ⌜ factorMeaning r ≡ eitherAt direction grid (sitePlants plants) site ⌝ }
+    ensures { λ r. ⌜ factorMeaning r ≡ atNamed direction (siteOf (sitePlants plants)) (siteNamed supply) ⌝ }
 {
-    let margin = grid.combined_margin(direction);
-    let FactorJudged::Given(combined) = margin else {
-        return margin;
+    let named = supply.site();
+    let SiteNamed::At(site) = named else {
+        return FactorJudged::Refused(9);
     };
-    let at_site = site_factor(plants, site, direction);
-    let FactorJudged::Given(captive) = at_site else {
-        return at_site;
-    };
-    FactorJudged::Given(emissions::either_factor(direction, combined, captive))
-}
-
-// The emission factor by supply, or refusal 8 to 11.
-fn source_factor(
-    grid: Grid,
-    plants: [PlantRecord; 8],
-    consumption: Consumption,
-    supply: Supply,
-    direction: Direction,
-) -> FactorJudged
-    requires { ⌜ allIntact plantIntact (plantPlace plants) 8 ≡ true ⌝ }
-    ensures { λ r. ⌜ factorMeaning r ≡ factorAt direction grid (sitePlants plants) consumption supply ⌝ }
-{
-    match supply {
-        Supply::Combined => grid.combined_margin(direction),
-        Supply::GridDefault => grid.default_factor(consumption),
-        Supply::Captive(site) => site_factor(plants, site, direction),
-        Supply::CaptiveDefault => FactorJudged::Given(emissions::captive_default(direction)),
-        Supply::Either(site) => either_factor(grid, plants, site, direction),
-    }
+    site_factor(plants, site, direction)
 }
 
 // The figure of a source: its factor, then its loss, then its grams.
@@ -332,7 +305,8 @@ fn source_figure(
     let supply = source.supply;
     let loss = source.loss;
     let direction = side.direction();
-    let judged = source_factor(grid, plants, totals.factor, supply, direction);
+    let captive = named_site_factor(plants, supply, direction);
+    let judged = supply.factor(direction, grid, captive, totals.factor);
     let FactorJudged::Given(factor) = judged else {
         return FigureJudged::Refused(judged.refusal());
     };

@@ -33,10 +33,6 @@ use ledger::report::Report;
 use ledger::report::Reported;
 use ledger::report::SideReport;
 use libc::STDOUT_FILENO;
-use metering::Interval;
-use metering::Meter;
-use metering::Registers;
-use metering::Sign;
 
 fn field_u8(line: &[u8], i: usize) -> u8 {
     (vectors::field(line, i) % 0x100) as u8
@@ -110,46 +106,16 @@ fn loss(line: &[u8]) -> Loss {
     }
 }
 
-fn sign(line: &[u8], i: usize) -> Sign {
-    if vectors::field(line, i) == 0 {
-        return Sign::Plus;
-    }
-    Sign::Minus
-}
-
-// The interval whose kind is the field i.
-fn interval(line: &[u8], i: usize) -> Interval
-    requires { ⌜ i ≤ 21 ⌝ }
-{
-    if vectors::field(line, i) == 0 {
-        return Interval::Counts(vectors::field(line, i + 1), vectors::field(line, i + 2));
-    }
-    Interval::Singles(Registers {
-        first: metering::register(vectors::field_u32(line, i + 1)),
-        last: metering::register(vectors::field_u32(line, i + 2)),
-    })
-}
-
-// The meter whose sign is the field i.
-fn meter(line: &[u8], i: usize) -> Meter
-    requires { ⌜ i ≤ 20 ⌝ }
-{
-    Meter {
-        sign: sign(line, i),
-        interval: interval(line, i + 1),
-    }
-}
-
 fn source_entry(line: &[u8]) -> SourceEntry {
     SourceEntry {
         side: side(line),
         supply: supply(line),
         loss: loss(line),
         meters: [
-            meter(line, 8),
-            meter(line, 12),
-            meter(line, 16),
-            meter(line, 20),
+            vectors::field_meter(line, 8),
+            vectors::field_meter(line, 12),
+            vectors::field_meter(line, 16),
+            vectors::field_meter(line, 20),
         ],
         count: field_u8(line, 7),
     }

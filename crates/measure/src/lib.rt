@@ -255,3 +255,56 @@ pub extern "C" fn measure_report(words: &[u32], times: u32) -> u64 {
     }
     sum
 }
+
+// For the size of a record: each holds an array of so many, all made from the caller's numbers, writes
+// one and reads one at places of the caller's. What the one with twice as many takes more is its records.
+
+#[no_mangle]
+pub extern "C" fn hold_64_sources(words: &[u32], at: u32) -> u64 {
+    let mut records = [source_record(word(words, 0)); 64];
+    records[(at % 64) as usize] = source_record(word(words, 1));
+    let held = records[(word(words, 2) % 64) as usize];
+    held.source.energy
+}
+
+#[no_mangle]
+pub extern "C" fn hold_128_sources(words: &[u32], at: u32) -> u64 {
+    let mut records = [source_record(word(words, 0)); 128];
+    records[(at % 128) as usize] = source_record(word(words, 1));
+    let held = records[(word(words, 2) % 128) as usize];
+    held.source.energy
+}
+
+#[no_mangle]
+pub extern "C" fn hold_64_plants(words: &[u32], at: u32) -> u64 {
+    let mut records = [plant_record(word(words, 0)); 64];
+    records[(at % 64) as usize] = plant_record(word(words, 1));
+    let held = records[(word(words, 2) % 64) as usize];
+    held.plant.generation as u64
+}
+
+#[no_mangle]
+pub extern "C" fn hold_128_plants(words: &[u32], at: u32) -> u64 {
+    let mut records = [plant_record(word(words, 0)); 128];
+    records[(at % 128) as usize] = plant_record(word(words, 1));
+    let held = records[(word(words, 2) % 128) as usize];
+    held.plant.generation as u64
+}
+
+#[no_mangle]
+pub extern "C" fn hold_8_ledgers(words: &[u32], at: u32) -> u64 {
+    let mut ledgers = [full(words); 8];
+    ledgers[(at % 8) as usize] = Ledger::new();
+    let held = ledgers[(word(words, 2) % 8) as usize];
+    let source = held.sources[(word(words, 3) % 32) as usize];
+    source.source.energy
+}
+
+#[no_mangle]
+pub extern "C" fn hold_16_ledgers(words: &[u32], at: u32) -> u64 {
+    let mut ledgers = [full(words); 16];
+    ledgers[(at % 16) as usize] = Ledger::new();
+    let held = ledgers[(word(words, 2) % 16) as usize];
+    let source = held.sources[(word(words, 3) % 32) as usize];
+    source.source.energy
+}

@@ -1,7 +1,12 @@
 // Test vectors as records of fixed width: a line of 64-bit fields, each of 16 lower-case hexadecimal
 // digits, with a space between two and a line feed at the end.
+ghost use Prim.Native.Nat.{_≤_};
 use libc::STDIN_FILENO;
 use libc::STDOUT_FILENO;
+use metering::Interval;
+use metering::Meter;
+use metering::Registers;
+use metering::Sign;
 use rounding::Direction;
 
 // Reads the next line, which has as many bytes as the slice, or answers that there is none.
@@ -53,6 +58,37 @@ pub fn field_direction(line: &[u8], i: usize) -> Direction {
         return Direction::Up;
     }
     Direction::Down
+}
+
+// The field i of a line as a sign: 0 is +, and 1 -.
+fn field_sign(line: &[u8], i: usize) -> Sign {
+    if field(line, i) == 0 {
+        return Sign::Plus;
+    }
+    Sign::Minus
+}
+
+// Three fields from i as an interval: its kind, whole (0) or single (1), and its first and last reading.
+fn field_interval(line: &[u8], i: usize) -> Interval
+    requires { ⌜ i ≤ 253 ⌝ }
+{
+    if field(line, i) == 0 {
+        return Interval::Counts(field(line, i + 1), field(line, i + 2));
+    }
+    Interval::Singles(Registers {
+        first: metering::register(field_u32(line, i + 1)),
+        last: metering::register(field_u32(line, i + 2)),
+    })
+}
+
+// Four fields from i as a meter: its sign and its interval.
+pub fn field_meter(line: &[u8], i: usize) -> Meter
+    requires { ⌜ i ≤ 252 ⌝ }
+{
+    Meter {
+        sign: field_sign(line, i),
+        interval: field_interval(line, i + 1),
+    }
 }
 
 // Writes a line with a number.
