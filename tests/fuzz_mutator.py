@@ -73,4 +73,5 @@ def fuzz(data: bytearray, other: bytearray, largest: int) -> bytearray:
     for _ in range(rng.choice((1, 1, 2, 3, 6))):
         if lines:
             change(lines, others)
-    return bytearray(b'\n'.join(lines)[:largest])
+    # AFL++ stops at an input without bytes.
+    return bytearray(b'\n'.join(lines)[:largest] or b'\n')
