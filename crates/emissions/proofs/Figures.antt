@@ -12,10 +12,6 @@ use Rattle.rounding.proofs.Order.{same}
 use Rattle.rounding.proofs.Ratio.{conservative-widen}
 use Rattle.emissions.specs.Figure.{energyWithLosses, gramsOf, exactGrams, gapLimit}
 
--- The limit of the gap with all of it over 10,000,000.
-abbrev plainLimit : ℕ → ℕ → Ratio
-plainLimit F U = (10000000 + 130 * (F + 2) + 11 * U) ÷ 10000000
-
 -- ---- the claims by numbers alone: e = (p − q) ÷ D, f = n ÷ m, K = 10,000 + T
 
 module _ (p q D E K U n m F g : ℕ) (posD : 0 < D) (posm : 0 < m) (K≤ : K ≤ 15000) where
@@ -37,8 +33,9 @@ module _ (p q D E K U n m F g : ℕ) (posD : 0 < D) (posm : 0 < m) (K≤ : K ≤
 
   up-near : E * D + q < p + 8 * D → U * 10000 < E * K + 10000 → n ≤ F * m → 10 * (F * m) < 10 * n + 11 * m
       → g * 1000000 < U * F + 1000000
-      → g * (D * 10000 * m * 1000000) * 10000000 + q * K * n * 10000000
-      < p * K * n * 10000000 + (10000000 + 130 * (F + 2) + 11 * U) * (D * 10000 * m * 1000000)
+      → g * (D * 10000 * m * 1000000) * gapLimit F U .over + q * K * n * gapLimit F U .over
+      < p * K * n * gapLimit F U .over + gapLimit F U .plus * (D * 10000 * m * 1000000)
+  unfolding gapLimit
   up-near h1 h2 h3 h4 h5 =
       omega (
         arith,
@@ -67,9 +64,9 @@ module _ (p q D E K U n m F g : ℕ) (posD : 0 < D) (posm : 0 < m) (K≤ : K ≤
 
   down-near : p < E * D + q + 8 * D → E * K < U * 10000 + 10000 → 10 * n < 10 * (F * m) + 11 * m
       → U * F < g * 1000000 + 1000000
-      → p * K * n * 10000000
-      < g * (D * 10000 * m * 1000000) * 10000000 + q * K * n * 10000000
-      + (10000000 + 130 * (F + 2) + 11 * U) * (D * 10000 * m * 1000000)
+      → p * K * n * gapLimit F U .over
+      < g * (D * 10000 * m * 1000000) * gapLimit F U .over + q * K * n * gapLimit F U .over + gapLimit F U .plus * (D * 10000 * m * 1000000)
+  unfolding gapLimit
   down-near h1 h2 h4 h5 =
       omega (
         arith,
@@ -83,7 +80,8 @@ module _ (p q D E K U n m F g : ℕ) (posD : 0 < D) (posm : 0 < m) (K≤ : K ≤
   -- Both claims, in either direction.
   plain-near : (dir : Direction) → Conservative dir E record { plus = p; minus = q; over = D } (8 ÷ 1) → Conservative dir F (n ÷ m) (11 ÷ 10)
       → Rounds dir (E * K) 10000 U → Rounds dir (U * F) 1000000 g
-      → Conservative dir g record { plus = p * K * n; minus = q * K * n; over = D * 10000 * m * 1000000 } (plainLimit F U)
+      → Conservative dir g record { plus = p * K * n; minus = q * K * n; over = D * 10000 * m * 1000000 } (gapLimit F U)
+  unfolding gapLimit
   plain-near Up he hf hu hg = (
     omega (arith, up-safe (omega arith) (hu .0) (omega arith) (hg .0)),
     omega (arith, up-near (omega arith) (hu .1) (omega arith) (omega arith) (hg .1)),
@@ -108,15 +106,11 @@ figure-is : (e : Ratio) (T : ℕ) (f : Ratio) → f .minus ≡ 0 → exactGrams 
 unfolding exactGrams
 figure-is e T f z = same (rw z (omega arith)) (rw z (omega arith)) (omega arith)
 
-limit-is : (F U : ℕ) → gapLimit F U ≡ plainLimit F U
-unfolding gapLimit
-limit-is F U = same (omega arith) (omega arith) (omega arith)
-
 -- U within the limits of E and T.
 pub energy-limit : (dir : Direction) (E T : ℕ) → E ≤ 100000000000 → T ≤ 5000 → energyWithLosses dir E T ≤ 150000000000
 unfolding energyWithLosses
 energy-limit dir E T E≤ T≤ =
-    divided-at-most dir (E * (10000 + T)) 10000 150000000000 (omega arith) (omega (arith, mul-le-mul-left E T≤))
+    divided-at-most _ (E * (10000 + T)) 10000 150000000000 (omega arith) (omega (arith, mul-le-mul-left E T≤))
 
 limit-over : (F U : ℕ) → 0 < gapLimit F U .over
 unfolding gapLimit
@@ -137,10 +131,9 @@ module _ (dir : Direction) (E T F : ℕ) (e f : Ratio) (posD : 0 < e .over) (pos
       let U = energyWithLosses dir E T in
       let g = gramsOf dir U F in
       subst (λ (x : Ratio). Conservative dir g x (gapLimit F U)) (sym (figure-is e T f z))
-      (subst (λ (w : Ratio). Conservative dir g (plainFigure e T (f .plus) (f .over)) w) (sym (limit-is F U))
       (plain-near (e .plus) (e .minus) (e .over) E (10000 + T) U (f .plus) (f .over) F g posD posm (omega arith) dir he
       (subst (λ (k : ℕ). Conservative dir F (record { plus = f .plus; minus = k; over = f .over }) (11 ÷ 10)) z hf)
-      (rounds dir (E * (10000 + T)) 10000 (omega arith)) (rounds dir (U * F) 1000000 (omega arith))))
+      (rounds dir (E * (10000 + T)) 10000 (omega arith)) (rounds dir (U * F) 1000000 (omega arith)))
 
   -- Within the limits of energy and factor it is off by less than 200 kilograms.
   pub figure-within-allowance : E ≤ 100000000000 → F ≤ 10000000
