@@ -18,7 +18,7 @@ use Rattle.metering.proofs.Readings.{unit-above-zero}
 use Rattle.emissions.specs.Outcome.{Outcome, refused, given}
 use Rattle.emissions.specs.Factor.{direction, Choice, chosen, factorOf, exactFactorOf}
 use Rattle.emissions.specs.Loss.{lossOf}
-use Rattle.emissions.specs.Figure.{Figure, figureOf, energyWithLosses, gramsOf, exactGrams, gapLimit}
+use Rattle.emissions.specs.Figure.{Figure, figureOf, energyWithLosses, gramsOf, exactGrams, gapLimit, gapAllowance}
 use Rattle.emissions.specs.declared.Side.{Side}
 use Rattle.emissions.specs.declared.Side.the-variants.{Project, Leakage, Baseline}
 use Rattle.emissions.proofs.Outcomes.{given-is, then-given}
@@ -48,7 +48,7 @@ pub record Accepted (s : Standing) : Type 0 where
 pub record FiguredSafe (s : Standing) (f : Figured) : Type 0 where
   pub fraction : 0 < exactFigure s f .over
   pub near : Conservative (direction (f .side)) (f .figure .grams) (exactFigure s f) (gapLimit (f .figure .factor) (f .figure .energy))
-  pub small : Conservative (direction (f .side)) (f .figure .grams) (exactFigure s f) (whole 200000)
+  pub small : Conservative (direction (f .side)) (f .figure .grams) (exactFigure s f) gapAllowance
 
 energy-over : (e : SourceEntry) → 0 < exactEnergy (metersOf e) .over
 unfolding exactEnergy
@@ -91,7 +91,7 @@ module _ (s : Standing) (h : Accepted s) (n : ℕ) (e : SourceEntry) (at : s .so
         fraction = subst (λ (r : Ratio). 0 < r .over) back (figure-over x T exactF (energy-over e) (factor .over));
         near = subst (λ (r : Ratio). Conservative dir g r (gapLimit F U)) back
             (figure-conservative dir (energyOf e) T F x exactF (energy-over e) (factor .over) (factor .unsigned) loss (facts .near) (factor .near));
-        small = subst (λ (r : Ratio). Conservative dir g r (whole 200000)) back
+        small = subst (λ (r : Ratio). Conservative dir g r gapAllowance) back
             (figure-within-allowance dir (energyOf e) T F x exactF (energy-over e) (factor .over) (factor .unsigned) loss (facts .near) (factor .near)
             (facts .limit) (factor .limit));
       }
@@ -173,10 +173,10 @@ module _ (s : Standing) (side : Side) (fs : List Figured) (h : All (FiguredSafe 
   side-over : 0 < sumᵣ (map (exactFigure s) (ofSide side fs)) .over
   side-over = sum-over (exactFigure s) (ofSide side fs) (all-then {P = P} (λ f k. k .0 .fraction) (ofSide side fs) in-side)
 
-  side-near : All (λ (f : Figured). Within (direction side) (gramsIn f) (exactFigure s f) (whole 200000)) (ofSide side fs)
+  side-near : All (λ (f : Figured). Within (direction side) (gramsIn f) (exactFigure s f) gapAllowance) (ofSide side fs)
   side-near =
-      all-then {P = P} (λ f k. subst (λ (dir : Direction). Within dir (gramsIn f) (exactFigure s f) (whole 200000)) (same-side (f .side) side (k .1))
-      (conservative-within (direction (f .side)) (gramsIn f) (exactFigure s f) (whole 200000) (k .0 .small))) (ofSide side fs) in-side
+      all-then {P = P} (λ f k. subst (λ (dir : Direction). Within dir (gramsIn f) (exactFigure s f) gapAllowance) (same-side (f .side) side (k .1))
+      (conservative-within (direction (f .side)) (gramsIn f) (exactFigure s f) gapAllowance (k .0 .small))) (ofSide side fs) in-side
 
   pub side-safe : figuresOf s ≡ fs → SideSafe s side (sideReport side fs)
   unfolding exactSide sideReport
@@ -213,7 +213,7 @@ module _ (s : Standing) (h : Accepted s) (fs : List Figured) (e : figuresFrom (b
           fraction = k .fraction;
           safe = k .near;
           gapBelow = conservative-distance dir (c .0 .grams) (exactFigure s x) (gapLimit (c .0 .factor) (c .0 .energy)) (k .near);
-          gapSmall = conservative-distance dir (c .0 .grams) (exactFigure s x) (whole 200000) (k .small);
+          gapSmall = conservative-distance dir (c .0 .grams) (exactFigure s x) gapAllowance (k .small);
         },
       )
 

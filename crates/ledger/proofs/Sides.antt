@@ -8,7 +8,7 @@ use native.Mathlib.Nat.{mul-le-mul-right, mul-pos}
 use lib.IntN.{pos, _-ℤ_}
 use lib.ListN.{length}
 use Rattle.rounding.specs.Divided.{divided, sum}
-use Rattle.rounding.specs.Ratio.{Ratio, whole, integer, _≤ᵣ_, _<ᵣ_, _+ᵣ_, _-ᵣ_, _per_, sumᵣ, Conservative}
+use Rattle.rounding.specs.Ratio.{Ratio, _÷_, whole, integer, _≤ᵣ_, _<ᵣ_, _+ᵣ_, _-ᵣ_, _per_, sumᵣ, Conservative}
 use Rattle.rounding.specs.declared.Direction.{Direction}
 use Rattle.rounding.specs.declared.Direction.the-variants.{Up, Down}
 use Rattle.rounding.proofs.Divided.{rounds}
@@ -16,10 +16,6 @@ use Rattle.rounding.proofs.Integers.{Differ, less-differ}
 use Rattle.rounding.proofs.Ratio.{Within, All, sum-within-equal, within-divided, conservative-widen}
 use Rattle.ledger.specs.Report.{reduction}
 use Rattle.ledger.specs.Exact.{sideAllowance, reductionAllowance}
-
--- 1 tonne and a millionth of 200,000 grams for each figure are the side's allowance.
-allowance-is : (k : ℕ) → whole (k * 200000) per 1000000 +ᵣ whole 1 ≤ᵣ sideAllowance k
-allowance-is k = omega arith
 
 -- A side: figures that each stand within 200,000 grams of an exact value.
 module _ {A : Type 0} (dir : Direction) (value : A → ℕ) (exact : A → Ratio) where
@@ -30,7 +26,7 @@ module _ {A : Type 0} (dir : Direction) (value : A → ℕ) (exact : A → Ratio
       let x = sumᵣ (map exact fs) in
       let w = length fs * 200000 in
       conservative-widen dir (divided dir g 1000000) (x per 1000000) (whole w per 1000000 +ᵣ whole 1) (sideAllowance (length fs))
-      (omega arith) (omega arith) (allowance-is (length fs))
+      (omega arith) (omega arith) (omega arith)
       (within-divided dir g 1000000 (divided dir g 1000000) x (whole w) (omega arith) above (omega arith)
       (sum-within-equal dir value exact 200000 (length fs) fs (omega arith) h)
       (rounds dir g 1000000 (omega arith)))
@@ -60,13 +56,12 @@ sum-linear : (B⁺ B⁻ P⁺ P⁻ L⁺ L⁻ W bW pW lW yW zW iW jW kW r s t : �
     → 1000 * (B⁺ + P⁻ + L⁻ + zW) < 1000 * (B⁻ + P⁺ + L⁺ + yW) + 3000 * W + 200 * (iW + jW + kW)
 sum-linear B⁺ B⁻ P⁺ P⁻ L⁺ L⁻ W bW pW lW yW zW iW jW kW r s t one e hb hp hl = omega arith
 
-sum-ring : (y z i j k : ℕ) (B P L : Ratio)
+sum-ring : (y z a : ℕ) (B P L : Ratio)
     → 1000 * (B .plus * (P .over * L .over) + P .minus * (B .over * L .over) + L .minus * (B .over * P .over) + z * (B .over * P .over * L .over))
     < 1000 * (B .minus * (P .over * L .over) + P .plus * (B .over * L .over) + L .plus * (B .over * P .over) + y * (B .over * P .over * L .over))
-    + 3000 * (B .over * P .over * L .over)
-    + 200 * (i * (B .over * P .over * L .over) + j * (B .over * P .over * L .over) + k * (B .over * P .over * L .over))
-    → B -ᵣ P -ᵣ L <ᵣ record { plus = y; minus = z; over = 1 } +ᵣ reductionAllowance (j + k + i)
-sum-ring y z i j k B P L h = omega arith
+    + a * (B .over * P .over * L .over)
+    → B -ᵣ P -ᵣ L <ᵣ record { plus = y; minus = z; over = 1 } +ᵣ a ÷ 1000
+sum-ring y z a B P L h = omega arith
 
 module _ (b p l i j k : ℕ) (B P L : Ratio) (posB : 0 < B .over) (posP : 0 < P .over) (posL : 0 < L .over)
     (hb : Conservative Down b B (sideAllowance i)) (hp : Conservative Up p P (sideAllowance j)) (hl : Conservative Up l L (sideAllowance k)) where
@@ -86,13 +81,16 @@ module _ (b p l i j k : ℕ) (B P L : Ratio) (posB : 0 < B .over) (posP : 0 < P 
   reduction-near =
       let W : ℕ = B .over * P .over * L .over in
       let z = reduction b p l in
-      sum-ring (integer z .plus) (integer z .minus) i j k B P L
-      (sum-linear _ _ _ _ _ _ W (b * W) (p * W) (l * W) (integer z .plus * W) (integer z .minus * W) (i * W) (j * W) (k * W)
-      (P .over * L .over) (B .over * L .over) (B .over * P .over)
-      (mul-pos posP posL) (omega (arith, ap (λ (t : ℕ). t * W) (reduction-differ b p l)))
-      (down-times (B .plus) (B .minus) (B .over) b i (P .over * L .over) W (omega arith) (omega (arith, hb .1)))
-      (up-times (P .plus) (P .minus) (P .over) p j (B .over * L .over) W (omega arith) (omega (arith, hp .1)))
-      (up-times (L .plus) (L .minus) (L .over) l k (B .over * P .over) W (omega arith) (omega (arith, hl .1))))
+      sum-ring (integer z .plus) (integer z .minus) (reductionAllowance (j + k + i) .plus) B P L
+      (omega (
+        arith,
+        sum-linear _ _ _ _ _ _ W (b * W) (p * W) (l * W) (integer z .plus * W) (integer z .minus * W) (i * W) (j * W) (k * W)
+            (P .over * L .over) (B .over * L .over) (B .over * P .over)
+            (mul-pos posP posL) (omega (arith, ap (λ (t : ℕ). t * W) (reduction-differ b p l)))
+            (down-times (B .plus) (B .minus) (B .over) b i (P .over * L .over) W (omega arith) (omega (arith, hb .1)))
+            (up-times (P .plus) (P .minus) (P .over) p j (B .over * L .over) W (omega arith) (omega (arith, hp .1)))
+            (up-times (L .plus) (L .minus) (L .over) l k (B .over * P .over) W (omega arith) (omega (arith, hl .1))),
+      ))
 
 -- The exact reduction's denominator is above 0.
 pub reduction-over : (B P L : Ratio) → 0 < B .over → 0 < P .over → 0 < L .over → 0 < (B -ᵣ P -ᵣ L) .over

@@ -7,7 +7,7 @@ use Rattle.rounding.specs.Ratio.{Ratio, whole, integer, _≤ᵣ_, _<ᵣ_, _+ᵣ
 use Rattle.rounding.specs.Calls.{answers, Held}
 use Rattle.emissions.specs.Outcome.{Outcome, given}
 use Rattle.emissions.specs.Factor.{direction}
-use Rattle.emissions.specs.Figure.{Figure, gapLimit}
+use Rattle.emissions.specs.Figure.{Figure, gapLimit, gapAllowance}
 use Rattle.emissions.specs.declared.Side.{Side}
 use Rattle.emissions.specs.declared.Side.the-variants.{Project, Leakage, Baseline}
 use Rattle.ledger.specs.Judging.{kept}
@@ -24,7 +24,7 @@ pub record SourceSafe (s : Standing) (n : ℕ) (e : SourceEntry) (f : Figure) : 
   pub fraction : 0 < exactFigure s (figuredAt n e f) .over
   pub safe : Conservative (direction (e .side)) (f .grams) (exactFigure s (figuredAt n e f)) (gapLimit (f .factor) (f .energy))
   pub gapBelow : gap s (figuredAt n e f) <ᵣ gapLimit (f .factor) (f .energy)
-  pub gapSmall : gap s (figuredAt n e f) <ᵣ whole 200000
+  pub gapSmall : gap s (figuredAt n e f) <ᵣ gapAllowance
 
 -- A side's tonnes stand on the safe side of its exact value, off by less than 1 tonne and 200 kilograms for each of its sources.
 pub record SideSafe (s : Standing) (side : Side) (r : SideReport) : Type 0 where

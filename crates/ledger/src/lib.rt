@@ -377,8 +377,8 @@ impl Ledger {
             };
         }
         let at = number as usize;
-        let held = self.plants[at];
-        if held.stands {
+        let plant = self.plants[at];
+        if plant.stands {
             self.plants[at] = PlantRecord::empty();
             return Entered {
                 ledger: self,
@@ -403,8 +403,8 @@ impl Ledger {
             };
         }
         let at = number as usize;
-        let held = self.sources[at];
-        if held.stands {
+        let source = self.sources[at];
+        if source.stands {
             self.sources[at] = SourceRecord::empty();
             return Entered {
                 ledger: self,

@@ -15,11 +15,11 @@ returns c =
     let j = drop-over (λ r. r .stands) (λ r. r .plant) noPlant (a .t1 .plants) 7 (a .number) (c .if1 .taken) in
     (rw j, rw j)
 
-mul-held : tie.Need-mul-held
-mul-held c = search needs
+mul-plant : tie.Need-mul-plant
+mul-plant c = search needs
 
-element-copy-out-held : tie.Need-element-copy-out-held
-element-copy-out-held c = search needs
+element-copy-out-plant : tie.Need-element-copy-out-plant
+element-copy-out-plant c = search needs
 
 empty-requires : tie.Need-empty-requires
 empty-requires c κs = search needs
@@ -51,8 +51,8 @@ drop-plant-spec =
     tie.close
     (tie.spec
     returns
-    mul-held
-    element-copy-out-held
+    mul-plant
+    element-copy-out-plant
     empty-requires
     mul-t14
     element-set-from-self

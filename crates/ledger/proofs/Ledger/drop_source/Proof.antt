@@ -15,21 +15,6 @@ returns c =
     let j = drop-over (λ r. r .stands) (λ r. r .source) noSource (a .t1 .sources) 31 (a .number) (c .if1 .taken) in
     (rw j, rw j)
 
-mul-held : tie.Need-mul-held
-mul-held c = search needs
-
-element-copy-out-held : tie.Need-element-copy-out-held
-element-copy-out-held c = search needs
-
-empty-requires : tie.Need-empty-requires
-empty-requires c κs = search needs
-
-mul-t14 : tie.Need-mul-t14
-mul-t14 c = search needs
-
-element-set-from-self : tie.Need-element-set-from-self
-element-set-from-self c = search needs
-
 returns-2 : tie.Need-returns-2
 unfolding step reply answer noSource
 returns-2 c =
@@ -46,13 +31,28 @@ returns-3 c =
     (c .before .before .if1 .left) _ false (c .if2 .left) refl in
     (rw j, rw j)
 
+mul-source : tie.Need-mul-source
+mul-source c = search needs
+
+element-copy-out-source : tie.Need-element-copy-out-source
+element-copy-out-source c = search needs
+
+empty-requires : tie.Need-empty-requires
+empty-requires c κs = search needs
+
+mul-t14 : tie.Need-mul-t14
+mul-t14 c = search needs
+
+element-set-from-self : tie.Need-element-set-from-self
+element-set-from-self c = search needs
+
 pub drop-source-spec : {M : Type 1} → statement M
 drop-source-spec =
     tie.close
     (tie.spec
     returns
-    mul-held
-    element-copy-out-held
+    mul-source
+    element-copy-out-source
     empty-requires
     mul-t14
     element-set-from-self
