@@ -1,11 +1,11 @@
 -- What the steps of the code answer. Only their own contracts cite these.
 use Prim.Native.Nat.{ℕ}
 use mathlib.Core.Bool.{Bool, true, false, cond}
-use mathlib.Core.List.{List, [], _∷_}
+use mathlib.Core.List.{List}
 use mathlib.Core.Option.{Option, none, some}
 use lib.Dec.{ltb}
 use lib.ListN.{drop, set}
-use Rattle.text.specs.Template.{Read, mapRead}
+use Rattle.text.specs.Template.{Read}
 use Rattle.metering.specs.declared.Meter.{Meter}
 use Rattle.fuel.specs.declared.FuelLine.{FuelLine}
 use Rattle.emissions.specs.declared.GridKind.{GridKind}

@@ -9,7 +9,7 @@ use native.Mathlib.Nat.{mul-pos}
 use lib.Dec.{eqb}
 use lib.ListN.{length}
 use Rattle.rounding.specs.Divided.{divided, sum}
-use Rattle.rounding.specs.Ratio.{Ratio, whole, _per_, sumᵣ, Conservative}
+use Rattle.rounding.specs.Ratio.{Ratio, _per_, sumᵣ, Conservative}
 use Rattle.rounding.specs.declared.Direction.{Direction}
 use Rattle.rounding.proofs.Ratio.{All, Within, all-then, sum-over, conservative-within, conservative-distance}
 use Rattle.metering.specs.Reading.{limit}

@@ -2,16 +2,16 @@
 use Prim.Native.Nat.{ℕ, _+_, _<_}
 use mathlib.Core.Path.{_≡_}
 use mathlib.Core.List.{List}
-use mathlib.Core.Option.{Option, some}
-use Rattle.rounding.specs.Ratio.{Ratio, whole, integer, _≤ᵣ_, _<ᵣ_, _+ᵣ_, Conservative}
+use mathlib.Core.Option.{some}
+use Rattle.rounding.specs.Ratio.{integer, _≤ᵣ_, _<ᵣ_, _+ᵣ_, Conservative}
 use Rattle.rounding.specs.Calls.{answers, Held}
-use Rattle.emissions.specs.Outcome.{Outcome, given}
+use Rattle.emissions.specs.Outcome.{given}
 use Rattle.emissions.specs.Factor.{direction}
 use Rattle.emissions.specs.Figure.{Figure, gapLimit, gapAllowance}
 use Rattle.emissions.specs.declared.Side.{Side}
 use Rattle.emissions.specs.declared.Side.the-variants.{Project, Leakage, Baseline}
 use Rattle.ledger.specs.Judging.{kept}
-use Rattle.ledger.specs.Report.{Books, Figured, SideReport, Report, Reply, reported, sourceFigure}
+use Rattle.ledger.specs.Report.{SideReport, Report, Reply, reported, sourceFigure}
 use Rattle.ledger.specs.Standing.{Call, Standing, nothing, after, energyOf, books, answer}
 use Rattle.ledger.specs.Exact.{figuredAt, exactFigure, gap, exactSide, exactReduction, sideAllowance, reductionAllowance}
 use Rattle.ledger.specs.Operations.{newLedger, step, reply}

@@ -1,6 +1,6 @@
 -- The exact values of what stands (document 01, "The exact figure of a source ..").
 use Prim.Native.Nat.{ℕ, _+_, _*_}
-use mathlib.Core.List.{List, [], _∷_, map}
+use mathlib.Core.List.{List, [], map}
 use mathlib.Core.Option.{Option, none, some}
 use Rattle.rounding.specs.Ratio.{Ratio, _÷_, whole, _-ᵣ_, _per_, sumᵣ, distance}
 use Rattle.metering.specs.Energy.{exactEnergy}
@@ -9,7 +9,7 @@ use Rattle.emissions.specs.Figure.{Figure, exactGrams}
 use Rattle.emissions.specs.declared.Side.{Side}
 use Rattle.emissions.specs.declared.Side.the-variants.{Project, Leakage, Baseline}
 use Rattle.ledger.specs.Judging.{metersOf}
-use Rattle.ledger.specs.Report.{Books, sourcesOf, plantsOf, siteOf, Figured, Figures, declined, figured, figuresFrom, ofSide}
+use Rattle.ledger.specs.Report.{sourcesOf, plantsOf, siteOf, Figured, Figures, declined, figured, figuresFrom, ofSide}
 use Rattle.ledger.specs.Standing.{Standing, books}
 use Rattle.ledger.specs.declared.SourceEntry.{SourceEntry}
 

@@ -1,15 +1,12 @@
 -- The operations on the ledger's own records: what each leaves and answers. The contracts of the code equal these.
 use Prim.Native.Nat.{ℕ, zero, suc}
 use mathlib.Core.Bool.{Bool, true, false, cond, _&&_}
-use mathlib.Core.List.{List, [], _∷_}
 use mathlib.Core.Option.{Option, none, some}
 use lib.Dec.{leb}
 use lib.ListN.{getD, set, replicate}
 use Rattle.metering.specs.Reading.{limit}
-use Rattle.fuel.specs.declared.FuelLine.{FuelLine}
 use Rattle.emissions.specs.Outcome.{Outcome, refused, given}
 use Rattle.emissions.specs.Factor.{factorLimit}
-use Rattle.emissions.specs.declared.GridEntry.{GridEntry}
 use Rattle.emissions.specs.declared.Grid.{Grid}
 use Rattle.emissions.specs.declared.Grid.the-variants.{Absent, Entered}
 use Rattle.emissions.specs.declared.Side.the-variants.{Project}

@@ -1,7 +1,7 @@
 -- What stands after a list of calls, from the calls' arguments alone, and the answer to a call where that stands (document 01, "The ledger
 -- and its exact value", second paragraph).
 use Prim.Native.Nat.{ℕ, _-_}
-use mathlib.Core.Bool.{Bool, cond}
+use mathlib.Core.Bool.{cond}
 use mathlib.Core.Option.{Option, none, some}
 use lib.Dec.{eqb}
 use Rattle.metering.specs.Energy.{roundedAdding, roundedTaking}
