@@ -16,18 +16,18 @@ use Rattle.ledger.specs.Standing.{Call, enterGrid, enterPlant, enterSource, dro
 use Rattle.ledger.specs.Standing as call
 use Rattle.forms.specs.Form.{Form}
 use Rattle.forms.specs.Calls.{callOf, fitted}
-use Rattle.forms.specs.declared.KindRead.{KindRead}
-use Rattle.forms.specs.declared.KindRead.the-variants as kind
-use Rattle.forms.specs.declared.SideRead.{SideRead}
-use Rattle.forms.specs.declared.SideRead.the-variants as side
-use Rattle.forms.specs.declared.SupplyRead.{SupplyRead}
-use Rattle.forms.specs.declared.SupplyRead.the-variants as supply
-use Rattle.forms.specs.declared.LossRead.{LossRead}
-use Rattle.forms.specs.declared.LossRead.the-variants as loss
-use Rattle.forms.specs.declared.MeterRead.{MeterRead}
-use Rattle.forms.specs.declared.MeterRead.the-variants as meter
-use Rattle.forms.specs.declared.FuelRead.{FuelRead}
-use Rattle.forms.specs.declared.FuelRead.the-variants as fuel
+use Rattle.forms.specs.declared.part.KindRead.{KindRead}
+use Rattle.forms.specs.declared.part.KindRead.the-variants as kind
+use Rattle.forms.specs.declared.part.SideRead.{SideRead}
+use Rattle.forms.specs.declared.part.SideRead.the-variants as side
+use Rattle.forms.specs.declared.part.SupplyRead.{SupplyRead}
+use Rattle.forms.specs.declared.part.SupplyRead.the-variants as supply
+use Rattle.forms.specs.declared.part.LossRead.{LossRead}
+use Rattle.forms.specs.declared.part.LossRead.the-variants as loss
+use Rattle.forms.specs.declared.part.MeterRead.{MeterRead}
+use Rattle.forms.specs.declared.part.MeterRead.the-variants as meter
+use Rattle.forms.specs.declared.part.FuelRead.{FuelRead}
+use Rattle.forms.specs.declared.part.FuelRead.the-variants as fuel
 use Rattle.forms.specs.declared.Kind.{Kind}
 use Rattle.forms.specs.declared.Kind.the-variants.{NoForm, GridForm, PlantForm, SourceForm, DropPlantForm, DropSourceForm, ReportForm}
 use Rattle.forms.specs.declared.Line.{Line}

@@ -1,21 +1,14 @@
 // A line read as the call that it makes (document 01, "The text the program tally reads": "Forms"). The
-// templates are those of the crate `text`: # is the place of a decimal, % that of a register.
+// templates are those of the crate `text`: # is the place of a decimal.
+mod list;
+mod part;
+
 ghost use mathlib.Core.Path.{_≡_};
-ghost use mathlib.Core.List.{map};
-ghost use mathlib.Core.Option.{none, some};
-ghost use Prim.Native.Nat.{_+_, _<_, _^_};
-ghost use lib.ListN.{length, drop};
+ghost use mathlib.Core.Option.{none};
+ghost use lib.ListN.{drop};
 ghost use Rattle.text.specs.Template.{mapRead};
-ghost use Rattle.forms.specs.Form.{whole, single};
 ghost use Rattle.forms.specs.Reading.{
   oneOf,
-  manyOf,
-  kinds,
-  sides,
-  supplies,
-  losses,
-  meters,
-  fuels,
   gridIn,
   plantIn,
   sourceIn,
@@ -24,31 +17,21 @@ ghost use Rattle.forms.specs.Reading.{
   isClosing,
   formIn,
 };
-ghost use Rattle.forms.specs.Calls.{
-  meterOf,
-  noLine,
-  noMeter,
-  fourOf,
-  mapped,
-  atMost,
-  wordField,
-  fittedSupply,
-  fittedLoss,
-  fittedLine,
-};
-ghost use Rattle.forms.specs.Steps.{
-  kindMeaning,
-  sideMeaning,
-  supplyMeaning,
-  lossMeaning,
-  meterMeaning,
-  fuelMeaning,
-  keptAt,
-  isSome,
-  callIn,
-  openingMeaning,
-  fittedCall,
-};
+ghost use Rattle.forms.specs.Calls.{mapped};
+ghost use Rattle.forms.specs.Steps.{isSome, callIn, openingMeaning, fittedCall};
+use crate::list::no_meter;
+use crate::list::read_fuels;
+use crate::list::read_meters;
+use crate::part::KindRead;
+use crate::part::LossRead;
+use crate::part::SideRead;
+use crate::part::SupplyRead;
+use crate::part::byte_field;
+use crate::part::read_kind;
+use crate::part::read_loss;
+use crate::part::read_side;
+use crate::part::read_supply;
+use crate::part::word_field;
 use emissions::GridEntry;
 use emissions::GridKind;
 use emissions::Loss;
@@ -57,12 +40,7 @@ use emissions::Supply;
 use fuel::FuelLine;
 use ledger::Plant;
 use ledger::SourceEntry;
-use metering::Interval;
-use metering::Meter;
-use metering::Registers;
-use metering::Sign;
 use text::Match;
-use text::Numbers;
 
 // The kinds of lines.
 pub enum Kind {
@@ -83,287 +61,6 @@ pub struct Line {
     pub plant: Plant,
     pub source: SourceEntry,
     pub next: usize,
-}
-
-// A part of a form at a place: the part and the place after it, or that none stands there.
-enum KindRead {
-    Missing,
-    Found(GridKind, usize),
-}
-
-enum SideRead {
-    Missing,
-    Found(Side, usize),
-}
-
-enum SupplyRead {
-    Missing,
-    Found(Supply, usize),
-}
-
-enum LossRead {
-    Missing,
-    Found(Loss, usize),
-}
-
-enum MeterRead {
-    Missing,
-    Found(Meter, usize),
-}
-
-enum FuelRead {
-    Missing,
-    Found(FuelLine, usize),
-}
-
-// The parts of an entry: the first four, how many there are, and the place after them.
-struct Fuels {
-    lines: [FuelLine; 4],
-    count: usize,
-    next: usize,
-}
-
-struct Meters {
-    meters: [Meter; 4],
-    count: usize,
-    next: usize,
-}
-
-// A number, or the largest of its field where it is larger. That is above every limit, so that an entry
-// refuses it alike.
-fn at_most(number: u64, limit: u64) -> u64
-    ensures { λ r. ⌜ r ≡ atMost limit number ⌝ }
-{
-    if number <= limit {
-        return number;
-    }
-    limit
-}
-
-fn byte_field(number: u64) -> u8
-    ensures { λ r. ⌜ r ≡ atMost 255 number ⌝ }
-{
-    at_most(number, 255) as u8
-}
-
-fn word_field(number: u64) -> u32
-    ensures { λ r. ⌜ r ≡ atMost 4294967295 number ⌝ }
-{
-    at_most(number, 4_294_967_295) as u32
-}
-
-fn read_kind(line: &[u8], at: usize) -> KindRead
-    ensures { λ r. ⌜ kindMeaning (now (line .entry)) r ≡ oneOf kinds (drop at (now (line .entry))) ⌝ }
-{
-    if let Match::Match(_, next) = text::read_template(line, at, b"thermal") {
-        return KindRead::Found(GridKind::Thermal, next);
-    }
-    if let Match::Match(_, next) = text::read_template(line, at, b"hydro") {
-        return KindRead::Found(GridKind::Hydro, next);
-    }
-    KindRead::Missing
-}
-
-fn read_side(line: &[u8], at: usize) -> SideRead
-    ensures { λ r. ⌜ sideMeaning (now (line .entry)) r ≡ oneOf sides (drop at (now (line .entry))) ⌝ }
-{
-    if let Match::Match(_, next) = text::read_template(line, at, b"project") {
-        return SideRead::Found(Side::Project, next);
-    }
-    if let Match::Match(_, next) = text::read_template(line, at, b"leakage") {
-        return SideRead::Found(Side::Leakage, next);
-    }
-    if let Match::Match(_, next) = text::read_template(line, at, b"baseline") {
-        return SideRead::Found(Side::Baseline, next);
-    }
-    SideRead::Missing
-}
-
-fn read_supply(line: &[u8], at: usize) -> SupplyRead
-    ensures { λ r. ⌜ supplyMeaning (now (line .entry)) r ≡ mapRead fittedSupply (oneOf supplies (drop at (now (line .entry)))) ⌝ }
-{
-    if let Match::Match(_, next) = text::read_template(line, at, b" (combined)") {
-        return SupplyRead::Found(Supply::Combined, next);
-    }
-    if let Match::Match(_, next) = text::read_template(line, at, b" (griddefault)") {
-        return SupplyRead::Found(Supply::GridDefault, next);
-    }
-    if let Match::Match(numbers, next) = text::read_template(line, at, b" (captive #)") {
-        return SupplyRead::Found(Supply::Captive(byte_field(numbers.first)), next);
-    }
-    if let Match::Match(_, next) = text::read_template(line, at, b" (captivedefault)") {
-        return SupplyRead::Found(Supply::CaptiveDefault, next);
-    }
-    if let Match::Match(numbers, next) = text::read_template(line, at, b" (either #)") {
-        return SupplyRead::Found(Supply::Either(byte_field(numbers.first)), next);
-    }
-    SupplyRead::Missing
-}
-
-fn read_loss(line: &[u8], at: usize) -> LossRead
-    ensures { λ r. ⌜ lossMeaning (now (line .entry)) r ≡ mapRead fittedLoss (oneOf losses (drop at (now (line .entry)))) ⌝ }
-{
-    if let Match::Match(numbers, next) = text::read_template(line, at, b" (loss #)") {
-        return LossRead::Found(Loss::Measured(at_most(numbers.first, 65_535) as u16), next);
-    }
-    if let Match::Match(_, next) = text::read_template(line, at, b" (default20)") {
-        return LossRead::Found(Loss::Default20, next);
-    }
-    if let Match::Match(_, next) = text::read_template(line, at, b" (default3)") {
-        return LossRead::Found(Loss::Default3, next);
-    }
-    if let Match::Match(_, next) = text::read_template(line, at, b" (none)") {
-        return LossRead::Found(Loss::Nothing, next);
-    }
-    LossRead::Missing
-}
-
-fn whole_meter(sign: Sign, numbers: Numbers) -> Meter
-    ensures { λ r. ⌜ r ≡ meterOf (whole sign (numbers .first) (numbers .second)) ⌝ }
-{
-    Meter {
-        sign,
-        interval: Interval::Counts(numbers.first, numbers.second),
-    }
-}
-
-fn single_meter(sign: Sign, numbers: Numbers) -> Meter
-    ensures { λ r. ⌜ r ≡ meterOf (single sign (wordField (numbers .first)) (wordField (numbers .second))) ⌝ }
-{
-    Meter {
-        sign,
-        interval: Interval::Singles(Registers {
-            first: metering::register(word_field(numbers.first)),
-            last: metering::register(word_field(numbers.second)),
-        }),
-    }
-}
-
-fn read_meter(line: &[u8], at: usize) -> MeterRead
-    ensures { λ r. ⌜ meterMeaning (now (line .entry)) r ≡ mapRead meterOf (oneOf meters (drop at (now (line .entry)))) ⌝ }
-{
-    if let Match::Match(numbers, next) = text::read_template(line, at, b" (whole + # #)") {
-        return MeterRead::Found(whole_meter(Sign::Plus, numbers), next);
-    }
-    if let Match::Match(numbers, next) = text::read_template(line, at, b" (whole - # #)") {
-        return MeterRead::Found(whole_meter(Sign::Minus, numbers), next);
-    }
-    if let Match::Match(numbers, next) = text::read_template(line, at, b" (single + % %)") {
-        return MeterRead::Found(single_meter(Sign::Plus, numbers), next);
-    }
-    if let Match::Match(numbers, next) = text::read_template(line, at, b" (single - % %)") {
-        return MeterRead::Found(single_meter(Sign::Minus, numbers), next);
-    }
-    MeterRead::Missing
-}
-
-fn read_fuel(line: &[u8], at: usize) -> FuelRead
-    ensures { λ r. ⌜ fuelMeaning (now (line .entry)) r ≡ mapRead fittedLine (oneOf fuels (drop at (now (line .entry)))) ⌝ }
-{
-    let Match::Match(numbers, next) = text::read_template(line, at, b" (fuel # # #)") else {
-        return FuelRead::Missing;
-    };
-    let fuel = FuelLine {
-        quantity: word_field(numbers.first),
-        ncv: word_field(numbers.second),
-        factor: word_field(numbers.third),
-    };
-    FuelRead::Found(fuel, next)
-}
-
-// One fuel line more; of those after the fourth only the count is kept.
-fn with_fuel(fuels: Fuels, fuel: FuelLine, next: usize) -> Fuels
-    requires { ⌜ fuels .count + 1 < 2 ^ 64 ⌝ }
-    ensures lines { λ r. ⌜ r .lines ≡ keptAt (fuels .count) (fuels .lines) fuel ⌝ }
-    ensures count { λ r. ⌜ r .count ≡ fuels .count + 1 ⌝ }
-    ensures next { λ r. ⌜ r .next ≡ next ⌝ }
-{
-    let count = fuels.count;
-    let mut more = fuels;
-    if count < 4 {
-        more.lines[count] = fuel;
-    }
-    more.count = count + 1;
-    more.next = next;
-    more
-}
-
-// Reads fuel lines: as many as stand at a place.
-fn read_fuels(line: &[u8], at: usize) -> Fuels
-    ensures lines { λ r. ⌜ r .lines ≡ fourOf noLine (map fittedLine (manyOf fuels (drop at (now (line .entry))) .value)) ⌝ }
-    ensures count { λ r. ⌜ r .count ≡ length (manyOf fuels (drop at (now (line .entry))) .value) ⌝ }
-    ensures rest { λ r. ⌜ drop (r .next) (now (line .entry)) ≡ manyOf fuels (drop at (now (line .entry))) .rest ⌝ }
-{
-    let none = FuelLine {
-        quantity: 0,
-        ncv: 0,
-        factor: 0,
-    };
-    let mut fuels = Fuels {
-        lines: [none; 4],
-        count: 0,
-        next: at,
-    };
-    let mut turn: usize = 0;
-    while turn < line.len() {
-        let place = fuels.next;
-        let FuelRead::Found(fuel, next) = read_fuel(line, place) else {
-            return fuels;
-        };
-        fuels = with_fuel(fuels, fuel, next);
-        turn += 1;
-    }
-    fuels
-}
-
-// One meter more; of those after the fourth only the count is kept.
-fn with_meter(meters: Meters, meter: Meter, next: usize) -> Meters
-    requires { ⌜ meters .count + 1 < 2 ^ 64 ⌝ }
-    ensures meters { λ r. ⌜ r .meters ≡ keptAt (meters .count) (meters .meters) meter ⌝ }
-    ensures count { λ r. ⌜ r .count ≡ meters .count + 1 ⌝ }
-    ensures next { λ r. ⌜ r .next ≡ next ⌝ }
-{
-    let count = meters.count;
-    let mut more = meters;
-    if count < 4 {
-        more.meters[count] = meter;
-    }
-    more.count = count + 1;
-    more.next = next;
-    more
-}
-
-fn no_meter() -> Meter
-    ensures { λ r. ⌜ r ≡ noMeter ⌝ }
-{
-    Meter {
-        sign: Sign::Plus,
-        interval: Interval::Counts(0, 0),
-    }
-}
-
-// Reads meters: as many as stand at a place.
-fn read_meters(line: &[u8], at: usize) -> Meters
-    ensures meters { λ r. ⌜ r .meters ≡ fourOf noMeter (map meterOf (manyOf meters (drop at (now (line .entry))) .value)) ⌝ }
-    ensures count { λ r. ⌜ r .count ≡ length (manyOf meters (drop at (now (line .entry))) .value) ⌝ }
-    ensures rest { λ r. ⌜ drop (r .next) (now (line .entry)) ≡ manyOf meters (drop at (now (line .entry))) .rest ⌝ }
-{
-    let none = no_meter();
-    let mut meters = Meters {
-        meters: [none; 4],
-        count: 0,
-        next: at,
-    };
-    let mut turn: usize = 0;
-    while turn < line.len() {
-        let place = meters.next;
-        let MeterRead::Found(meter, next) = read_meter(line, place) else {
-            return meters;
-        };
-        meters = with_meter(meters, meter, next);
-        turn += 1;
-    }
-    meters
 }
 
 // A line of a kind whose other parts are empty.

@@ -2,8 +2,8 @@
 use borrow.Author.Needs.{needs}
 use native.Mathlib.Omega.{arith}
 use Rattle.forms.proofs.Rows.{at-most-fits}
-use Rattle.forms.proofs.word_field.Statement.{statement}
-use Rattle.forms.proofs.word_field.Tie as tie
+use Rattle.forms.proofs.part.word_field.Statement.{statement}
+use Rattle.forms.proofs.part.word_field.Tie as tie
 
 at-most-requires : tie.Need-at-most-requires
 at-most-requires c κs = search needs

@@ -10,8 +10,8 @@ use Rattle.text.specs.Template.{mapRead}
 use Rattle.forms.specs.Reading.{losses}
 use Rattle.forms.specs.Calls.{fittedLoss}
 use Rattle.forms.proofs.Rows.{Left, row-passed, row-read, no-row, at-most-fits}
-use Rattle.forms.proofs.read_loss.Statement.{statement}
-use Rattle.forms.proofs.read_loss.Tie as tie
+use Rattle.forms.proofs.part.read_loss.Statement.{statement}
+use Rattle.forms.proofs.part.read_loss.Tie as tie
 
 -- The text at the place.
 abbrev text : tie.Start → List ℕ

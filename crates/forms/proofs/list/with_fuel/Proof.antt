@@ -3,8 +3,8 @@ use borrow.Author.Needs.{needs}
 use borrow.Author.Tests.{lt-ltb, le-ltb}
 use mathlib.Core.Path.{refl}
 use mathlib.Core.Logic.{⊎-elim}
-use Rattle.forms.proofs.with_fuel.Statement.{statement}
-use Rattle.forms.proofs.with_fuel.Tie as tie
+use Rattle.forms.proofs.list.with_fuel.Statement.{statement}
+use Rattle.forms.proofs.list.with_fuel.Tie as tie
 
 mul-fuel : tie.Need-mul-fuel
 mul-fuel c = search needs

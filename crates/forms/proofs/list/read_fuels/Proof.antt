@@ -10,8 +10,8 @@ use Rattle.forms.specs.Reading as reading
 use Rattle.forms.specs.Calls.{fittedLine, noLine}
 use Rattle.forms.specs.Steps.{fuelMeaning}
 use Rattle.forms.proofs.Lists.{fuels-take, within-length, Amounts, left-whole, left-end, left-none, left-one}
-use Rattle.forms.proofs.read_fuels.Statement.{statement}
-use Rattle.forms.proofs.read_fuels.Tie as tie
+use Rattle.forms.proofs.list.read_fuels.Statement.{statement}
+use Rattle.forms.proofs.list.read_fuels.Tie as tie
 
 abbrev Inv-loop : tie.InvT-loop
 Inv-loop line at fuels₀ turn₀ fuels turn =

@@ -10,8 +10,8 @@ use Rattle.forms.specs.Reading as reading
 use Rattle.forms.specs.Calls.{meterOf, noMeter}
 use Rattle.forms.specs.Steps.{meterMeaning}
 use Rattle.forms.proofs.Lists.{meters-take, within-length, Amounts, left-whole, left-end, left-none, left-one}
-use Rattle.forms.proofs.read_meters.Statement.{statement}
-use Rattle.forms.proofs.read_meters.Tie as tie
+use Rattle.forms.proofs.list.read_meters.Statement.{statement}
+use Rattle.forms.proofs.list.read_meters.Tie as tie
 
 abbrev Inv-loop : tie.InvT-loop
 Inv-loop line at meters₀ turn₀ meters turn =

@@ -3,8 +3,8 @@ use borrow.Author.Needs.{needs}
 use borrow.Author.Tests.{lt-ltb, le-ltb}
 use mathlib.Core.Path.{refl}
 use mathlib.Core.Logic.{⊎-elim}
-use Rattle.forms.proofs.with_meter.Statement.{statement}
-use Rattle.forms.proofs.with_meter.Tie as tie
+use Rattle.forms.proofs.list.with_meter.Statement.{statement}
+use Rattle.forms.proofs.list.with_meter.Tie as tie
 
 mul-meter : tie.Need-mul-meter
 mul-meter c = search needs

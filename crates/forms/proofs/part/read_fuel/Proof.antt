@@ -5,8 +5,8 @@ use Rattle.text.specs.Template.{mapRead}
 use Rattle.forms.specs.Reading.{fuels}
 use Rattle.forms.specs.Calls.{fittedLine}
 use Rattle.forms.proofs.Rows.{row-passed, row-read, no-row}
-use Rattle.forms.proofs.read_fuel.Statement.{statement}
-use Rattle.forms.proofs.read_fuel.Tie as tie
+use Rattle.forms.proofs.part.read_fuel.Statement.{statement}
+use Rattle.forms.proofs.part.read_fuel.Tie as tie
 
 slice-aggregate-read-template : tie.Need-slice-aggregate-read-template
 slice-aggregate-read-template c = search needs

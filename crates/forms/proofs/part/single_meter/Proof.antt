@@ -1,7 +1,7 @@
 -- `forms::single_meter` meets its contract. Assumes nothing.
 use borrow.Author.Needs.{needs}
-use Rattle.forms.proofs.single_meter.Statement.{statement}
-use Rattle.forms.proofs.single_meter.Tie as tie
+use Rattle.forms.proofs.part.single_meter.Statement.{statement}
+use Rattle.forms.proofs.part.single_meter.Tie as tie
 
 word-field-requires : tie.Need-word-field-requires
 word-field-requires c κs = search needs

@@ -9,8 +9,8 @@ use Rattle.text.specs.Template.{mapRead}
 use Rattle.forms.specs.Reading.{supplies}
 use Rattle.forms.specs.Calls.{fittedSupply}
 use Rattle.forms.proofs.Rows.{Left, row-passed, row-read, no-row}
-use Rattle.forms.proofs.read_supply.Statement.{statement}
-use Rattle.forms.proofs.read_supply.Tie as tie
+use Rattle.forms.proofs.part.read_supply.Statement.{statement}
+use Rattle.forms.proofs.part.read_supply.Tie as tie
 
 -- The text at the place.
 abbrev text : tie.Start → List ℕ

@@ -1,8 +1,8 @@
 -- `forms::at_most` meets its contract. Assumes nothing.
 use mathlib.Core.Path.{sym}
 use Rattle.forms.proofs.Rows.{at-most-within, at-most-over}
-use Rattle.forms.proofs.at_most.Statement.{statement}
-use Rattle.forms.proofs.at_most.Tie as tie
+use Rattle.forms.proofs.part.at_most.Statement.{statement}
+use Rattle.forms.proofs.part.at_most.Tie as tie
 
 returns : tie.Need-returns
 returns c = sym (at-most-within _ _ (c .if1 .taken))

@@ -9,8 +9,8 @@ use Rattle.text.specs.Template.{placesOf, mapRead}
 use Rattle.forms.specs.Reading.{meters}
 use Rattle.forms.specs.Calls.{meterOf}
 use Rattle.forms.proofs.Rows.{Left, row-passed, row-read, no-row, registers-fit}
-use Rattle.forms.proofs.read_meter.Statement.{statement}
-use Rattle.forms.proofs.read_meter.Tie as tie
+use Rattle.forms.proofs.part.read_meter.Statement.{statement}
+use Rattle.forms.proofs.part.read_meter.Tie as tie
 
 -- The text at the place.
 abbrev text : tie.Start → List ℕ

@@ -1,0 +1,125 @@
+// The fuel lines of a plant and the meters of a source: as many as stand at a place, of which an entry has
+// the first four and counts all (document 01: "Any count of fuel lines or meters, none included, is a form").
+ghost use mathlib.Core.Path.{_≡_};
+ghost use mathlib.Core.List.{map};
+ghost use Prim.Native.Nat.{_+_, _<_, _^_};
+ghost use lib.ListN.{length, drop};
+ghost use Rattle.forms.specs.Reading.{manyOf, meters, fuels};
+ghost use Rattle.forms.specs.Calls.{meterOf, noLine, noMeter, fourOf, fittedLine};
+ghost use Rattle.forms.specs.Steps.{keptAt};
+use crate::part::FuelRead;
+use crate::part::MeterRead;
+use crate::part::read_fuel;
+use crate::part::read_meter;
+use fuel::FuelLine;
+use metering::Interval;
+use metering::Meter;
+use metering::Sign;
+
+// The parts of an entry: the first four, how many there are, and the place after them.
+pub struct Fuels {
+    pub lines: [FuelLine; 4],
+    pub count: usize,
+    pub next: usize,
+}
+
+pub struct Meters {
+    pub meters: [Meter; 4],
+    pub count: usize,
+    pub next: usize,
+}
+
+// One fuel line more; of those after the fourth only the count is kept.
+pub fn with_fuel(fuels: Fuels, fuel: FuelLine, next: usize) -> Fuels
+    requires { ⌜ fuels .count + 1 < 2 ^ 64 ⌝ }
+    ensures lines { λ r. ⌜ r .lines ≡ keptAt (fuels .count) (fuels .lines) fuel ⌝ }
+    ensures count { λ r. ⌜ r .count ≡ fuels .count + 1 ⌝ }
+    ensures next { λ r. ⌜ r .next ≡ next ⌝ }
+{
+    let count = fuels.count;
+    let mut more = fuels;
+    if count < 4 {
+        more.lines[count] = fuel;
+    }
+    more.count = count + 1;
+    more.next = next;
+    more
+}
+
+// Reads fuel lines: as many as stand at a place.
+pub fn read_fuels(line: &[u8], at: usize) -> Fuels
+    ensures lines { λ r. ⌜ r .lines ≡ fourOf noLine (map fittedLine (manyOf fuels (drop at (now (line .entry))) .value)) ⌝ }
+    ensures count { λ r. ⌜ r .count ≡ length (manyOf fuels (drop at (now (line .entry))) .value) ⌝ }
+    ensures rest { λ r. ⌜ drop (r .next) (now (line .entry)) ≡ manyOf fuels (drop at (now (line .entry))) .rest ⌝ }
+{
+    let none = FuelLine {
+        quantity: 0,
+        ncv: 0,
+        factor: 0,
+    };
+    let mut fuels = Fuels {
+        lines: [none; 4],
+        count: 0,
+        next: at,
+    };
+    let mut turn: usize = 0;
+    while turn < line.len() {
+        let place = fuels.next;
+        let FuelRead::Found(fuel, next) = read_fuel(line, place) else {
+            return fuels;
+        };
+        fuels = with_fuel(fuels, fuel, next);
+        turn += 1;
+    }
+    fuels
+}
+
+// One meter more; of those after the fourth only the count is kept.
+pub fn with_meter(meters: Meters, meter: Meter, next: usize) -> Meters
+    requires { ⌜ meters .count + 1 < 2 ^ 64 ⌝ }
+    ensures meters { λ r. ⌜ r .meters ≡ keptAt (meters .count) (meters .meters) meter ⌝ }
+    ensures count { λ r. ⌜ r .count ≡ meters .count + 1 ⌝ }
+    ensures next { λ r. ⌜ r .next ≡ next ⌝ }
+{
+    let count = meters.count;
+    let mut more = meters;
+    if count < 4 {
+        more.meters[count] = meter;
+    }
+    more.count = count + 1;
+    more.next = next;
+    more
+}
+
+pub fn no_meter() -> Meter
+    ensures { λ r. ⌜ r ≡ noMeter ⌝ }
+{
+    Meter {
+        sign: Sign::Plus,
+        interval: Interval::Counts(0, 0),
+    }
+}
+
+// Reads meters: as many as stand at a place.
+pub fn read_meters(line: &[u8], at: usize) -> Meters
+    ensures meters { λ r. ⌜ r .meters ≡ fourOf noMeter (map meterOf (manyOf meters (drop at (now (line .entry))) .value)) ⌝ }
+    ensures count { λ r. ⌜ r .count ≡ length (manyOf meters (drop at (now (line .entry))) .value) ⌝ }
+    ensures rest { λ r. ⌜ drop (r .next) (now (line .entry)) ≡ manyOf meters (drop at (now (line .entry))) .rest ⌝ }
+{
+    let none = no_meter();
+    let mut meters = Meters {
+        meters: [none; 4],
+        count: 0,
+        next: at,
+    };
+    let mut turn: usize = 0;
+    while turn < line.len() {
+        let place = meters.next;
+        let MeterRead::Found(meter, next) = read_meter(line, place) else {
+            return meters;
+        };
+        meters = with_meter(meters, meter, next);
+        turn += 1;
+    }
+    meters
+}

@@ -1,0 +1,200 @@
+// The parts of a form, each at a place of a line (document 01, "The text the program tally reads": "Forms").
+// The templates are those of the crate `text`: # is the place of a decimal, % that of a register.
+ghost use mathlib.Core.Path.{_≡_};
+ghost use lib.ListN.{drop};
+ghost use Rattle.text.specs.Template.{mapRead};
+ghost use Rattle.forms.specs.Form.{whole, single};
+ghost use Rattle.forms.specs.Reading.{oneOf, kinds, sides, supplies, losses, meters, fuels};
+ghost use Rattle.forms.specs.Calls.{meterOf, atMost, wordField, fittedSupply, fittedLoss, fittedLine};
+ghost use Rattle.forms.specs.Steps.{
+  kindMeaning,
+  sideMeaning,
+  supplyMeaning,
+  lossMeaning,
+  meterMeaning,
+  fuelMeaning,
+};
+use emissions::GridKind;
+use emissions::Loss;
+use emissions::Side;
+use emissions::Supply;
+use fuel::FuelLine;
+use metering::Interval;
+use metering::Meter;
+use metering::Registers;
+use metering::Sign;
+use text::Match;
+use text::Numbers;
+
+// A part of a form at a place: the part and the place after it, or that none stands there.
+pub enum KindRead {
+    Missing,
+    Found(GridKind, usize),
+}
+
+pub enum SideRead {
+    Missing,
+    Found(Side, usize),
+}
+
+pub enum SupplyRead {
+    Missing,
+    Found(Supply, usize),
+}
+
+pub enum LossRead {
+    Missing,
+    Found(Loss, usize),
+}
+
+pub enum MeterRead {
+    Missing,
+    Found(Meter, usize),
+}
+
+pub enum FuelRead {
+    Missing,
+    Found(FuelLine, usize),
+}
+
+// A number, or the largest of its field where it is larger. That is above every limit, so that an entry
+// refuses it alike.
+pub fn at_most(number: u64, limit: u64) -> u64
+    ensures { λ r. ⌜ r ≡ atMost limit number ⌝ }
+{
+    if number <= limit {
+        return number;
+    }
+    limit
+}
+
+pub fn byte_field(number: u64) -> u8
+    ensures { λ r. ⌜ r ≡ atMost 255 number ⌝ }
+{
+    at_most(number, 255) as u8
+}
+
+pub fn word_field(number: u64) -> u32
+    ensures { λ r. ⌜ r ≡ atMost 4294967295 number ⌝ }
+{
+    at_most(number, 4_294_967_295) as u32
+}
+
+pub fn read_kind(line: &[u8], at: usize) -> KindRead
+    ensures { λ r. ⌜ kindMeaning (now (line .entry)) r ≡ oneOf kinds (drop at (now (line .entry))) ⌝ }
+{
+    if let Match::Match(_, next) = text::read_template(line, at, b"thermal") {
+        return KindRead::Found(GridKind::Thermal, next);
+    }
+    if let Match::Match(_, next) = text::read_template(line, at, b"hydro") {
+        return KindRead::Found(GridKind::Hydro, next);
+    }
+    KindRead::Missing
+}
+
+pub fn read_side(line: &[u8], at: usize) -> SideRead
+    ensures { λ r. ⌜ sideMeaning (now (line .entry)) r ≡ oneOf sides (drop at (now (line .entry))) ⌝ }
+{
+    if let Match::Match(_, next) = text::read_template(line, at, b"project") {
+        return SideRead::Found(Side::Project, next);
+    }
+    if let Match::Match(_, next) = text::read_template(line, at, b"leakage") {
+        return SideRead::Found(Side::Leakage, next);
+    }
+    if let Match::Match(_, next) = text::read_template(line, at, b"baseline") {
+        return SideRead::Found(Side::Baseline, next);
+    }
+    SideRead::Missing
+}
+
+pub fn read_supply(line: &[u8], at: usize) -> SupplyRead
+    ensures { λ r. ⌜ supplyMeaning (now (line .entry)) r ≡ mapRead fittedSupply (oneOf supplies (drop at (now (line .entry)))) ⌝ }
+{
+    if let Match::Match(_, next) = text::read_template(line, at, b" (combined)") {
+        return SupplyRead::Found(Supply::Combined, next);
+    }
+    if let Match::Match(_, next) = text::read_template(line, at, b" (griddefault)") {
+        return SupplyRead::Found(Supply::GridDefault, next);
+    }
+    if let Match::Match(numbers, next) = text::read_template(line, at, b" (captive #)") {
+        return SupplyRead::Found(Supply::Captive(byte_field(numbers.first)), next);
+    }
+    if let Match::Match(_, next) = text::read_template(line, at, b" (captivedefault)") {
+        return SupplyRead::Found(Supply::CaptiveDefault, next);
+    }
+    if let Match::Match(numbers, next) = text::read_template(line, at, b" (either #)") {
+        return SupplyRead::Found(Supply::Either(byte_field(numbers.first)), next);
+    }
+    SupplyRead::Missing
+}
+
+pub fn read_loss(line: &[u8], at: usize) -> LossRead
+    ensures { λ r. ⌜ lossMeaning (now (line .entry)) r ≡ mapRead fittedLoss (oneOf losses (drop at (now (line .entry)))) ⌝ }
+{
+    if let Match::Match(numbers, next) = text::read_template(line, at, b" (loss #)") {
+        return LossRead::Found(Loss::Measured(at_most(numbers.first, 65_535) as u16), next);
+    }
+    if let Match::Match(_, next) = text::read_template(line, at, b" (default20)") {
+        return LossRead::Found(Loss::Default20, next);
+    }
+    if let Match::Match(_, next) = text::read_template(line, at, b" (default3)") {
+        return LossRead::Found(Loss::Default3, next);
+    }
+    if let Match::Match(_, next) = text::read_template(line, at, b" (none)") {
+        return LossRead::Found(Loss::Nothing, next);
+    }
+    LossRead::Missing
+}
+
+pub fn whole_meter(sign: Sign, numbers: Numbers) -> Meter
+    ensures { λ r. ⌜ r ≡ meterOf (whole sign (numbers .first) (numbers .second)) ⌝ }
+{
+    Meter {
+        sign,
+        interval: Interval::Counts(numbers.first, numbers.second),
+    }
+}
+
+pub fn single_meter(sign: Sign, numbers: Numbers) -> Meter
+    ensures { λ r. ⌜ r ≡ meterOf (single sign (wordField (numbers .first)) (wordField (numbers .second))) ⌝ }
+{
+    Meter {
+        sign,
+        interval: Interval::Singles(Registers {
+            first: metering::register(word_field(numbers.first)),
+            last: metering::register(word_field(numbers.second)),
+        }),
+    }
+}
+
+pub fn read_meter(line: &[u8], at: usize) -> MeterRead
+    ensures { λ r. ⌜ meterMeaning (now (line .entry)) r ≡ mapRead meterOf (oneOf meters (drop at (now (line .entry)))) ⌝ }
+{
+    if let Match::Match(numbers, next) = text::read_template(line, at, b" (whole + # #)") {
+        return MeterRead::Found(whole_meter(Sign::Plus, numbers), next);
+    }
+    if let Match::Match(numbers, next) = text::read_template(line, at, b" (whole - # #)") {
+        return MeterRead::Found(whole_meter(Sign::Minus, numbers), next);
+    }
+    if let Match::Match(numbers, next) = text::read_template(line, at, b" (single + % %)") {
+        return MeterRead::Found(single_meter(Sign::Plus, numbers), next);
+    }
+    if let Match::Match(numbers, next) = text::read_template(line, at, b" (single - % %)") {
+        return MeterRead::Found(single_meter(Sign::Minus, numbers), next);
+    }
+    MeterRead::Missing
+}
+
+pub fn read_fuel(line: &[u8], at: usize) -> FuelRead
+    ensures { λ r. ⌜ fuelMeaning (now (line .entry)) r ≡ mapRead fittedLine (oneOf fuels (drop at (now (line .entry)))) ⌝ }
+{
+    let Match::Match(numbers, next) = text::read_template(line, at, b" (fuel # # #)") else {
+        return FuelRead::Missing;
+    };
+    let fuel = FuelLine {
+        quantity: word_field(numbers.first),
+        ncv: word_field(numbers.second),
+        factor: word_field(numbers.third),
+    };
+    FuelRead::Found(fuel, next)
+}
