@@ -6,8 +6,8 @@ use mathlib.Core.List.{List, [], _∷_}
 use mathlib.Core.Option.{Option, none, some}
 use native.Mathlib.Numerals.{add-one}
 use native.Mathlib.Omega.{arith}
-use lib.ListN.{length, take, drop, getD, drop-of-length-le}
-use lib.Seq.{drop-cons, getD-take, length-take-le}
+use lib.ListN.{length, take, drop, getD, set, drop-of-length-le}
+use lib.Seq.{drop-cons, getD-take, length-take-le, set-getD}
 use borrow.Author.Tests.{le-leb, lt-leb}
 use Rattle.metering.specs.Energy.{judgedMeters, settledEnergy}
 use Rattle.metering.specs.declared.MetersJudged.{MetersJudged}
@@ -19,7 +19,7 @@ use Rattle.emissions.specs.Factor.{direction}
 use Rattle.ledger.specs.Judging.{linesOf, allWithinLimits, plantJudged, dropJudged}
 use Rattle.ledger.specs.Judging.{siteFits, lossFits, lossMatches, onRead, onEnergy, kept, sourceJudged}
 use Rattle.ledger.specs.Report.{ok, refusedWith}
-use Rattle.ledger.specs.Standing.{acknowledged}
+use Rattle.ledger.specs.Standing.{whereGiven, acknowledged}
 use Rattle.ledger.specs.declared.Plant.{Plant}
 use Rattle.ledger.specs.declared.SourceEntry.{SourceEntry}
 use Rattle.ledger.specs.declared.Source.{Source}
@@ -127,6 +127,13 @@ module _ (n : ℕ) (e : SourceEntry) where
       unfolding sourceJudged
       source-sums t j r = rw (le-leb n 31 h, s, t, r)
 
+-- ---- what is left
+
+-- What is made of what a judged entry leaves is what the entry leaves of it.
+pub given-mapped : {A S T : Type 0} (o : Outcome A) (f : S → T) (g : A → S) (s : S) → f (whereGiven o g s) ≡ whereGiven o (λ a. f (g a)) (f s)
+given-mapped (refused n) f g s = refl
+given-mapped (given a) f g s = refl
+
 -- ---- a drop
 
 -- A list may be read with either default, where what is read of both is the same.
@@ -150,3 +157,21 @@ module _ {R A : Type 0} (stands : R → Bool) (item : R → A) (e : R) (xs : Lis
   unfolding dropJudged
   drop-within h d true k s = rw (le-leb n last h, sym (either-default stands d e s xs n) ∙ k)
   drop-within h d false k s = rw (le-leb n last h, sym (either-default stands d e s xs n) ∙ k)
+
+  -- What a drop in range leaves and answers, by whether the record there stands.
+  module _ (h : n ≤ last) (d : R) (k : stands d ≡ stands e) where
+    pub drop-leaves : {S : Type 0} (f : List R → S)
+        → f (set xs n (cond (stands (getD xs n d)) e (getD xs n d))) ≡ whereGiven (dropJudged last (shown stands item e xs) n) (λ a. f (set xs n e)) (f xs)
+    drop-leaves {S} f = go (stands (getD xs n d)) refl
+      where
+        go : (t : Bool) → stands (getD xs n d) ≡ t
+            → f (set xs n (cond t e (getD xs n d))) ≡ whereGiven (dropJudged last (shown stands item e xs) n) (λ a. f (set xs n e)) (f xs)
+        go true q = rw (drop-within h d true q k)
+        go false q = rw (drop-within h d false q k) (ap f (set-getD xs n d))
+
+    pub drop-answers : cond (stands (getD xs n d)) ok (refusedWith 7) ≡ acknowledged (dropJudged last (shown stands item e xs) n)
+    drop-answers = go (stands (getD xs n d)) refl
+      where
+        go : (t : Bool) → stands (getD xs n d) ≡ t → cond t ok (refusedWith 7) ≡ acknowledged (dropJudged last (shown stands item e xs) n)
+        go true q = rw (drop-within h d true q k)
+        go false q = rw (drop-within h d false q k)

@@ -3,10 +3,11 @@
 pub mod report;
 
 ghost use mathlib.Core.Path.{_≡_};
-ghost use mathlib.Core.Bool.{true};
+ghost use mathlib.Core.Bool.{true, cond};
 ghost use Prim.Native.Nat.{_≤_};
 ghost use lib.ListN.{take};
 ghost use Rattle.ledger.specs.Judging.{
+  gridJudged,
   allWithinLimits,
   plantJudged,
   siteFits,
@@ -21,10 +22,12 @@ ghost use Rattle.ledger.specs.Standing.{
   enterSource,
   dropPlant,
   dropSource,
+  whereGiven,
   acknowledged,
 };
 ghost use Rattle.ledger.specs.Operations.{noPlant, noSource, newLedger, step, reply};
 ghost use Rattle.ledger.specs.Answers.{answerMeaning, sourceMeaning};
+ghost use Rattle.ledger.specs.Report.{ok, refusedWith};
 use emissions::Grid;
 use emissions::GridEntry;
 use emissions::Loss;
@@ -164,6 +167,16 @@ impl PlantRecord {
             },
         }
     }
+
+    // What a drop leaves: the empty record, and this one where nothing stands.
+    fn dropped(self) -> PlantRecord
+        ensures { λ r. ⌜ r ≡ cond (self .stands) noPlant self ⌝ }
+    {
+        if self.stands {
+            return PlantRecord::empty();
+        }
+        self
+    }
 }
 
 impl SourceRecord {
@@ -179,6 +192,16 @@ impl SourceRecord {
                 energy: 0,
             },
         }
+    }
+
+    // What a drop leaves: the empty record, and this one where nothing stands.
+    fn dropped(self) -> SourceRecord
+        ensures { λ r. ⌜ r ≡ cond (self .stands) noSource self ⌝ }
+    {
+        if self.stands {
+            return SourceRecord::empty();
+        }
+        self
     }
 }
 
@@ -282,6 +305,35 @@ impl SourceJudged {
     }
 }
 
+// The grid that an entry leaves: the new one, or the old one where the entry is refused.
+fn grid_after(grid: Grid, entry: GridEntry) -> Grid
+    ensures { λ r. ⌜ r ≡ whereGiven (gridJudged entry) (λ a. Grid.Entered a) grid ⌝ }
+{
+    if entry.margin > Grid::FACTOR_LIMIT {
+        return grid;
+    }
+    Grid::Entered(entry)
+}
+
+fn grid_answer(entry: GridEntry) -> Answer
+    ensures { λ r. ⌜ answerMeaning r ≡ acknowledged (gridJudged entry) ⌝ }
+{
+    if entry.margin > Grid::FACTOR_LIMIT {
+        return Answer::Refused(2);
+    }
+    Answer::Accepted
+}
+
+// The answer to a drop under a number in range.
+fn drop_answer(stands: bool) -> Answer
+    ensures { λ r. ⌜ answerMeaning r ≡ cond stands ok (refusedWith 7) ⌝ }
+{
+    if stands {
+        return Answer::Accepted;
+    }
+    Answer::Refused(7)
+}
+
 impl Ledger {
     // A new ledger is empty.
     pub fn new() -> Ledger
@@ -301,21 +353,16 @@ impl Ledger {
         ensures ledger { λ r. ⌜ r .ledger ≡ step self (enterGrid entry) ⌝ }
         ensures answer { λ r. ⌜ answerMeaning (r .answer) ≡ reply self (enterGrid entry) ⌝ }
     {
-        if entry.margin > Grid::FACTOR_LIMIT {
-            return Entered {
-                ledger: self,
-                answer: Answer::Refused(2),
-            };
-        }
+        let grid = self.grid;
         let plants = self.plants;
         let sources = self.sources;
         Entered {
             ledger: Ledger {
-                grid: Grid::Entered(entry),
+                grid: grid_after(grid, entry),
                 plants,
                 sources,
             },
-            answer: Answer::Accepted,
+            answer: grid_answer(entry),
         }
     }
 
@@ -378,16 +425,10 @@ impl Ledger {
         }
         let at = number as usize;
         let plant = self.plants[at];
-        if plant.stands {
-            self.plants[at] = PlantRecord::empty();
-            return Entered {
-                ledger: self,
-                answer: Answer::Accepted,
-            };
-        }
+        self.plants[at] = plant.dropped();
         Entered {
             ledger: self,
-            answer: Answer::Refused(7),
+            answer: drop_answer(plant.stands),
         }
     }
 
@@ -404,16 +445,10 @@ impl Ledger {
         }
         let at = number as usize;
         let source = self.sources[at];
-        if source.stands {
-            self.sources[at] = SourceRecord::empty();
-            return Entered {
-                ledger: self,
-                answer: Answer::Accepted,
-            };
-        }
+        self.sources[at] = source.dropped();
         Entered {
             ledger: self,
-            answer: Answer::Refused(7),
+            answer: drop_answer(source.stands),
         }
     }
 }

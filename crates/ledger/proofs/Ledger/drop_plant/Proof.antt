@@ -1,10 +1,12 @@
 -- `ledger::Ledger::drop_plant` meets its contract: the number, then whether a plant stands there. Assumes nothing.
 use borrow.Author.Needs.{needs}
-use mathlib.Core.Path.{refl}
-use mathlib.Core.Bool.{true, false}
+use mathlib.Core.Path.{refl, _∙_}
+use mathlib.Core.List.{List}
 use Rattle.ledger.specs.Standing.{answer}
 use Rattle.ledger.specs.Operations.{noPlant, step, reply}
-use Rattle.ledger.proofs.Judged.{drop-over, drop-within}
+use Rattle.ledger.specs.declared.PlantRecord.{PlantRecord}
+use Rattle.ledger.specs.declared.Ledger.{Ledger}
+use Rattle.ledger.proofs.Judged.{drop-over, drop-leaves, drop-answers}
 use Rattle.ledger.proofs.Ledger.drop_plant.Statement.{statement}
 use Rattle.ledger.proofs.Ledger.drop_plant.Tie as tie
 
@@ -15,36 +17,33 @@ returns c =
     let j = drop-over (λ r. r .stands) (λ r. r .plant) noPlant (a .t1 .plants) 7 (a .number) (c .if1 .taken) in
     (rw j, rw j)
 
+returns-2 : tie.Need-returns-2
+unfolding step reply answer noPlant
+returns-2 c =
+    let a = c .before .before .before .before .args in
+    let h = c .before .before .before .if1 .left in
+    let left : List PlantRecord → Ledger = λ rs. record { grid = a .t1 .grid; plants = rs; sources = a .t1 .sources } in (
+      rw (c .before .dropped .ensures) (drop-leaves (λ r. r .stands) (λ r. r .plant) noPlant (a .t1 .plants) 7 (a .number) h _ refl left),
+      c .drop-answer .ensures ∙ drop-answers (λ r. r .stands) (λ r. r .plant) noPlant (a .t1 .plants) 7 (a .number) h _ refl,
+    )
+
 mul-plant : tie.Need-mul-plant
 mul-plant c = search needs
 
 element-copy-out-plant : tie.Need-element-copy-out-plant
 element-copy-out-plant c = search needs
 
-empty-requires : tie.Need-empty-requires
-empty-requires c κs = search needs
+dropped-requires : tie.Need-dropped-requires
+dropped-requires c κs = search needs
 
-mul-t14 : tie.Need-mul-t14
-mul-t14 c = search needs
+mul-t9 : tie.Need-mul-t9
+mul-t9 c = search needs
 
 element-set-from-self : tie.Need-element-set-from-self
 element-set-from-self c = search needs
 
-returns-2 : tie.Need-returns-2
-unfolding step reply answer noPlant
-returns-2 c =
-    let a = c .before .before .before .before .args in
-    let j = drop-within (λ r. r .stands) (λ r. r .plant) noPlant (a .t1 .plants) 7 (a .number)
-    (c .before .before .before .if1 .left) _ true (c .before .if2 .taken) refl in
-    (rw (j, c .empty .ensures), rw j)
-
-returns-3 : tie.Need-returns-3
-unfolding step reply answer noPlant
-returns-3 c =
-    let a = c .before .before .before .args in
-    let j = drop-within (λ r. r .stands) (λ r. r .plant) noPlant (a .t1 .plants) 7 (a .number)
-    (c .before .before .if1 .left) _ false (c .if2 .left) refl in
-    (rw j, rw j)
+drop-answer-requires : tie.Need-drop-answer-requires
+drop-answer-requires c κs = search needs
 
 pub drop-plant-spec : {M : Type 1} → statement M
 drop-plant-spec =
@@ -53,8 +52,8 @@ drop-plant-spec =
     returns
     mul-plant
     element-copy-out-plant
-    empty-requires
-    mul-t14
+    dropped-requires
+    mul-t9
     element-set-from-self
-    returns-2
-    returns-3)
+    drop-answer-requires
+    returns-2)

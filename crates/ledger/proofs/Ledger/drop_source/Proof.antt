@@ -1,10 +1,12 @@
 -- `ledger::Ledger::drop_source` meets its contract: the number, then whether a source stands there. Assumes nothing.
 use borrow.Author.Needs.{needs}
-use mathlib.Core.Path.{refl}
-use mathlib.Core.Bool.{true, false}
+use mathlib.Core.Path.{refl, _∙_}
+use mathlib.Core.List.{List}
 use Rattle.ledger.specs.Standing.{answer}
 use Rattle.ledger.specs.Operations.{noSource, step, reply}
-use Rattle.ledger.proofs.Judged.{drop-over, drop-within}
+use Rattle.ledger.specs.declared.SourceRecord.{SourceRecord}
+use Rattle.ledger.specs.declared.Ledger.{Ledger}
+use Rattle.ledger.proofs.Judged.{drop-over, drop-leaves, drop-answers}
 use Rattle.ledger.proofs.Ledger.drop_source.Statement.{statement}
 use Rattle.ledger.proofs.Ledger.drop_source.Tie as tie
 
@@ -19,17 +21,11 @@ returns-2 : tie.Need-returns-2
 unfolding step reply answer noSource
 returns-2 c =
     let a = c .before .before .before .before .args in
-    let j = drop-within (λ r. r .stands) (λ r. r .source) noSource (a .t1 .sources) 31 (a .number)
-    (c .before .before .before .if1 .left) _ true (c .before .if2 .taken) refl in
-    (rw (j, c .empty .ensures), rw j)
-
-returns-3 : tie.Need-returns-3
-unfolding step reply answer noSource
-returns-3 c =
-    let a = c .before .before .before .args in
-    let j = drop-within (λ r. r .stands) (λ r. r .source) noSource (a .t1 .sources) 31 (a .number)
-    (c .before .before .if1 .left) _ false (c .if2 .left) refl in
-    (rw j, rw j)
+    let h = c .before .before .before .if1 .left in
+    let left : List SourceRecord → Ledger = λ rs. record { grid = a .t1 .grid; plants = a .t1 .plants; sources = rs } in (
+      rw (c .before .dropped .ensures) (drop-leaves (λ r. r .stands) (λ r. r .source) noSource (a .t1 .sources) 31 (a .number) h _ refl left),
+      c .drop-answer .ensures ∙ drop-answers (λ r. r .stands) (λ r. r .source) noSource (a .t1 .sources) 31 (a .number) h _ refl,
+    )
 
 mul-source : tie.Need-mul-source
 mul-source c = search needs
@@ -37,14 +33,17 @@ mul-source c = search needs
 element-copy-out-source : tie.Need-element-copy-out-source
 element-copy-out-source c = search needs
 
-empty-requires : tie.Need-empty-requires
-empty-requires c κs = search needs
+dropped-requires : tie.Need-dropped-requires
+dropped-requires c κs = search needs
 
-mul-t14 : tie.Need-mul-t14
-mul-t14 c = search needs
+mul-t9 : tie.Need-mul-t9
+mul-t9 c = search needs
 
 element-set-from-self : tie.Need-element-set-from-self
 element-set-from-self c = search needs
+
+drop-answer-requires : tie.Need-drop-answer-requires
+drop-answer-requires c κs = search needs
 
 pub drop-source-spec : {M : Type 1} → statement M
 drop-source-spec =
@@ -53,8 +52,8 @@ drop-source-spec =
     returns
     mul-source
     element-copy-out-source
-    empty-requires
-    mul-t14
+    dropped-requires
+    mul-t9
     element-set-from-self
-    returns-2
-    returns-3)
+    drop-answer-requires
+    returns-2)
