@@ -9,7 +9,7 @@ use Rattle.ledger.specs.Report as report
 use Rattle.ledger.specs.Report.{refusedWith}
 use Rattle.ledger.specs.Standing.{Call}
 use Rattle.ledger.specs.Operations.{step, reply}
-use Rattle.ledger.specs.Steps.{reportIn}
+use Rattle.ledger.specs.Answers.{reportIn}
 use Rattle.ledger.specs.declared.Ledger.{Ledger}
 use Rattle.answers.specs.declared.line.Reply.{Reply}
 use Rattle.answers.specs.declared.line.Reply.the-variants as answer

@@ -1,11 +1,10 @@
 // What a line does to the ledger, and the text of its answer (document 01, "The text the program tally
 // reads": "Each line prints ..").
 ghost use mathlib.Core.Path.{_≡_};
-ghost use Rattle.ledger.specs.Answers.{answerMeaning};
+ghost use Rattle.ledger.specs.Answers.{answerMeaning, sideMeaning, reportIn, reportMeaning};
 ghost use Rattle.ledger.specs.Report.{refusedWith, refusedAt};
 ghost use Rattle.ledger.specs.Standing.{report};
 ghost use Rattle.ledger.specs.Operations.{reply};
-ghost use Rattle.ledger.specs.Steps.{sideMeaning, reportIn, reportMeaning};
 ghost use Rattle.forms.specs.Calls.{lineCall};
 ghost use Rattle.answers.specs.Answers.{sideParts, reportParts, replyParts};
 ghost use Rattle.forms.specs.Steps.{callIn};

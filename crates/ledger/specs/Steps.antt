@@ -170,9 +170,6 @@ walkedOf (figured fs) = walked.Summed (record { project = sideSum Project fs; le
 abbrev pub booksOf : Grid → List PlantRecord → List SourceRecord → Books
 booksOf grid plants sources = record { grid = grid; plant = plantPlace plants; source = sourcePlace sources }
 
-abbrev pub sideMeaning : SideReport → report.SideReport
-sideMeaning s = record { tonnes = s .tonnes; grams = s .grams; sources = s .sources }
-
 abbrev pub sideFrom : Side → SideSum → report.SideReport
 sideFrom side s = record { tonnes = divided (direction side) (s .grams) 1000000; grams = s .grams; sources = s .sources }
 
@@ -190,13 +187,3 @@ summary s =
 
 unfoldable pub reportedOf : Sums → Reply
 reportedOf s = cond (allFit (summary s)) (reported (summary s)) (refusedWith 13)
-
--- The paper's number and values of each case of a report's answer.
-abbrev pub reportIn : Report → report.Report
-reportIn r = record { project = sideMeaning (r .project); leakage = sideMeaning (r .leakage); baseline = sideMeaning (r .baseline); reduction = r .reduction }
-
-abbrev pub reportMeaning : Reported → Reply
-reportMeaning answers.Damaged = damaged
-reportMeaning (answers.Refused n) = refusedWith n
-reportMeaning (answers.RefusedAt n k) = refusedAt n k
-reportMeaning (answers.Given r) = reported (reportIn r)

@@ -10,7 +10,8 @@ ghost use Rattle.ledger.specs.Report.{comparesFactor, comparesLoss, plan
 ghost use Rattle.ledger.specs.Operations.{plantIn, sourceIn, plantIntact, sourceIntact, gridIntact, allIntact, reply};
 ghost use Rattle.ledger.specs.Standing.{report};
 ghost use mathlib.Core.Option.{some};
-ghost use Rattle.ledger.specs.Steps.{plantPlace, sourcePlace, sitePlants, share, joined, Small, totalsWith, totalsOf, siteWith, figureAt, parts, figureMeaning, FigureWithin, figureRefusal, noSums, withGrams, Bounded, walkedOf, booksOf, sideMeaning, sideFrom, reductionOf, reportedOf, reportMeaning};
+ghost use Rattle.ledger.specs.Answers.{sideMeaning, reportMeaning};
+ghost use Rattle.ledger.specs.Steps.{plantPlace, sourcePlace, sitePlants, share, joined, Small, totalsWith, totalsOf, siteWith, figureAt, parts, figureMeaning, FigureWithin, figureRefusal, noSums, withGrams, Bounded, walkedOf, booksOf, sideFrom, reductionOf, reportedOf};
 use crate::Answer;
 use crate::Ledger;
 use crate::Plant;

@@ -13,7 +13,8 @@ use Rattle.emissions.specs.Factor.{direction}
 use Rattle.emissions.specs.declared.Side.{Side}
 use Rattle.emissions.specs.declared.Side.the-variants.{Project, Leakage, Baseline}
 use Rattle.ledger.specs.Report as report
-use Rattle.ledger.specs.Steps.{sideMeaning, sideFrom, reductionOf, reportIn, reportedOf}
+use Rattle.ledger.specs.Answers.{sideMeaning, reportIn}
+use Rattle.ledger.specs.Steps.{sideFrom, reductionOf, reportedOf}
 use Rattle.ledger.specs.declared.report.SideSum.{SideSum}
 use Rattle.ledger.specs.declared.report.Sums.{Sums}
 use Rattle.ledger.specs.declared.report.SideReport.{SideReport}
