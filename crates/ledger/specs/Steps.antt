@@ -18,7 +18,7 @@ use Rattle.emissions.specs.declared.Grid.{Grid}
 use Rattle.emissions.specs.declared.Side.{Side}
 use Rattle.emissions.specs.declared.Side.the-variants.{Project, Leakage, Baseline}
 use Rattle.emissions.specs.declared.Supply.{Supply}
-use Rattle.ledger.specs.Report.{Numbered, standing, consumption, comparesFactor, comparesLoss, plantMilligrams, siteOf, Figured, Figures, declined, figured, gramsIn, ofSide, Books, allFit, Reply, refusedWith, refusedAt, reported, damaged}
+use Rattle.ledger.specs.Report.{Numbered, standing, consumption, comparesFactor, comparesLoss, plantMilligrams, siteOf, Figured, Figures, declined, figured, gramsIn, ofSide, Books, allFit, Reply, refusedWith, reported}
 use Rattle.ledger.specs.Report as report
 use Rattle.ledger.specs.Operations.{noPlant, noSource, plantIn, sourceIn}
 use Rattle.ledger.specs.declared.Plant.{Plant}
@@ -36,8 +36,6 @@ use Rattle.ledger.specs.declared.report.Walked.{Walked}
 use Rattle.ledger.specs.declared.report.Walked.the-variants as walked
 use Rattle.ledger.specs.declared.report.SideReport.{SideReport}
 use Rattle.ledger.specs.declared.report.Report.{Report}
-use Rattle.ledger.specs.declared.report.Reported.{Reported}
-use Rattle.ledger.specs.declared.report.Reported.the-variants as answers
 
 -- What the records under the numbers show.
 abbrev pub plantPlace : List PlantRecord → ℕ → Option Plant

@@ -1,6 +1,5 @@
 -- `ledger::Ledger::enter_grid` meets its contract: the plants and the sources stay, whatever the grid becomes. Assumes nothing.
 use borrow.Author.Needs.{needs}
-use mathlib.Core.Path.{_∙_}
 use Rattle.emissions.specs.declared.Grid.{Grid}
 use Rattle.emissions.specs.declared.Grid.the-variants.{Entered}
 use Rattle.ledger.specs.Judging.{gridJudged}
