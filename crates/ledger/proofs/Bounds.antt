@@ -215,7 +215,7 @@ side-small side fs h fits =
     let g = leb-true _ 1000000000000000 fits in
     let k : length (ofSide side fs) ≤ length fs = those-length _ fs in
     record {
-      tonnes = divided-at-most (direction side) _ 1000000 1000000000 (omega arith) g;
+      tonnes = divided-at-most _ _ 1000000 1000000000 (omega arith) g;
       grams = g;
       sources = omega arith;
     }
