@@ -18,7 +18,8 @@ use Rattle.ledger.specs.Standing.{Call, enterSource}
 use Rattle.forms.specs.Form.{Form}
 use Rattle.forms.specs.Reading.{orElse, openingIn, isClosing, formIn}
 use Rattle.forms.specs.Calls.{mapped}
-use Rattle.forms.specs.Steps.{found, isSome, callIn, withRest, openingMeaning, fittedCall}
+use Rattle.ledger.specs.Judging.{isThere}
+use Rattle.forms.specs.Steps.{found, callIn, withRest, openingMeaning, fittedCall}
 use Rattle.forms.specs.declared.Line.{Line}
 
 -- ---- the bracket that closes a form
@@ -74,20 +75,20 @@ source-call N side meters count rest u v l m e q = rw (e, q)
 
 module _ (s : List ℕ) (l : Line) (a b : Option (Read Form)) (e : openingMeaning s l ≡ mapRead fittedCall a) where
   -- A form that was read is the opening.
-  pub read-first : isSome (callIn l) ≡ true → openingMeaning s l ≡ mapRead fittedCall (orElse a b)
+  pub read-first : isThere (callIn l) ≡ true → openingMeaning s l ≡ mapRead fittedCall (orElse a b)
   read-first h = go (callIn l) a e h
     where
-      go : (o : Option Call) (a : Option (Read Form)) → withRest s o (l .next) ≡ mapRead fittedCall a → isSome o ≡ true
+      go : (o : Option Call) (a : Option (Read Form)) → withRest s o (l .next) ≡ mapRead fittedCall a → isThere o ≡ true
           → withRest s o (l .next) ≡ mapRead fittedCall (orElse a b)
       go none a q k = let z : _≡_ {A = ℕ} 0 1 = cc in absurd (omega arith)
       go (some c) none q k = let z : _≡_ {A = ℕ} 0 1 = cc in absurd (omega arith)
       go (some c) (some r) q k = q
 
   -- Where none was read, the next kind is tried.
-  pub read-next : isSome (callIn l) ≡ false → orElse a b ≡ b
+  pub read-next : isThere (callIn l) ≡ false → orElse a b ≡ b
   read-next h = go (callIn l) a e h
     where
-      go : (o : Option Call) (a : Option (Read Form)) → withRest s o (l .next) ≡ mapRead fittedCall a → isSome o ≡ false → orElse a b ≡ b
+      go : (o : Option Call) (a : Option (Read Form)) → withRest s o (l .next) ≡ mapRead fittedCall a → isThere o ≡ false → orElse a b ≡ b
       go (some c) a q k = let z : _≡_ {A = ℕ} 0 1 = cc in absurd (omega arith)
       go none none q k = refl
       go none (some r) q k = let z : _≡_ {A = ℕ} 0 1 = cc in absurd (omega arith)

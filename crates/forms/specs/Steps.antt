@@ -1,6 +1,6 @@
 -- What the steps of the code answer. Only their own contracts cite these.
 use Prim.Native.Nat.{ℕ}
-use mathlib.Core.Bool.{Bool, true, false, cond}
+use mathlib.Core.Bool.{cond}
 use mathlib.Core.List.{List}
 use mathlib.Core.Option.{Option, none, some}
 use lib.Dec.{ltb}
@@ -66,10 +66,6 @@ abbrev pub keptAt : {A : Type 0} → ℕ → List A → A → List A
 keptAt count parts part = cond (ltb count 4) (set parts count part) parts
 
 -- ---- the call of a line that was read
-
-abbrev pub isSome : {A : Type 0} → Option A → Bool
-isSome none = false
-isSome (some a) = true
 
 abbrev pub callBy : Kind → Line → Option Call
 callBy NoForm l = none

@@ -18,7 +18,8 @@ ghost use Rattle.forms.specs.Reading.{
   formIn,
 };
 ghost use Rattle.forms.specs.Calls.{mapped};
-ghost use Rattle.forms.specs.Steps.{isSome, callIn, openingMeaning, fittedCall};
+ghost use Rattle.ledger.specs.Judging.{isThere};
+ghost use Rattle.forms.specs.Steps.{callIn, openingMeaning, fittedCall};
 use crate::list::no_meter;
 use crate::list::read_fuels;
 use crate::list::read_meters;
@@ -216,7 +217,7 @@ fn read_other(line: &[u8]) -> Line
 
 // Whether a line was read.
 fn is_form(line: Line) -> bool
-    ensures { λ r. ⌜ r ≡ isSome (callIn line) ⌝ }
+    ensures { λ r. ⌜ r ≡ isThere (callIn line) ⌝ }
 {
     let kind = line.kind;
     match kind {

@@ -30,7 +30,7 @@ pub struct Meters {
 }
 
 // One fuel line more; of those after the fourth only the count is kept.
-pub fn with_fuel(fuels: Fuels, fuel: FuelLine, next: usize) -> Fuels
+fn with_fuel(fuels: Fuels, fuel: FuelLine, next: usize) -> Fuels
     requires { ⌜ fuels .count + 1 < 2 ^ 64 ⌝ }
     ensures lines { λ r. ⌜ r .lines ≡ keptAt (fuels .count) (fuels .lines) fuel ⌝ }
     ensures count { λ r. ⌜ r .count ≡ fuels .count + 1 ⌝ }
@@ -75,7 +75,7 @@ pub fn read_fuels(line: &[u8], at: usize) -> Fuels
 }
 
 // One meter more; of those after the fourth only the count is kept.
-pub fn with_meter(meters: Meters, meter: Meter, next: usize) -> Meters
+fn with_meter(meters: Meters, meter: Meter, next: usize) -> Meters
     requires { ⌜ meters .count + 1 < 2 ^ 64 ⌝ }
     ensures meters { λ r. ⌜ r .meters ≡ keptAt (meters .count) (meters .meters) meter ⌝ }
     ensures count { λ r. ⌜ r .count ≡ meters .count + 1 ⌝ }

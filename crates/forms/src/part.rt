@@ -59,7 +59,7 @@ pub enum FuelRead {
 
 // A number, or the largest of its field where it is larger. That is above every limit, so that an entry
 // refuses it alike.
-pub fn at_most(number: u64, limit: u64) -> u64
+fn at_most(number: u64, limit: u64) -> u64
     ensures { λ r. ⌜ r ≡ atMost limit number ⌝ }
 {
     if number <= limit {
@@ -146,7 +146,7 @@ pub fn read_loss(line: &[u8], at: usize) -> LossRead
     LossRead::Missing
 }
 
-pub fn whole_meter(sign: Sign, numbers: Numbers) -> Meter
+fn whole_meter(sign: Sign, numbers: Numbers) -> Meter
     ensures { λ r. ⌜ r ≡ meterOf (whole sign (numbers .first) (numbers .second)) ⌝ }
 {
     Meter {
@@ -155,7 +155,7 @@ pub fn whole_meter(sign: Sign, numbers: Numbers) -> Meter
     }
 }
 
-pub fn single_meter(sign: Sign, numbers: Numbers) -> Meter
+fn single_meter(sign: Sign, numbers: Numbers) -> Meter
     ensures { λ r. ⌜ r ≡ meterOf (single sign (wordField (numbers .first)) (wordField (numbers .second))) ⌝ }
 {
     Meter {
