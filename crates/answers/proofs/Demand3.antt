@@ -4,7 +4,7 @@ use mathlib.Core.List.{List, [], _∷_}
 use mathlib.Core.Option.{Option, none, some}
 use Prim.Native.Nat.{ℕ}
 use Rattle.rounding.specs.Calls.{Held}
-use Rattle.ledger.specs.Report.{Reply}
+use Rattle.report.specs.Report.{Reply}
 use Rattle.ledger.specs.Standing.{Call, Standing, nothing, after}
 use Rattle.ledger.specs.Claim.{Claim}
 use Rattle.ledger.proofs.Demand3.{demand-3}

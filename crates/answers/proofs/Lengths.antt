@@ -16,7 +16,7 @@ use borrow.Author.Tests.{leb-true}
 use Rattle.text.specs.Word.{bytes}
 use Rattle.text.specs.Decimal.{decimal, signedDecimal}
 use Rattle.text.proofs.Decimals.{length-at-most}
-use Rattle.ledger.specs.Report.{SideReport, Report, Reply, ok, refusedWith, refusedAt, reported, damaged}
+use Rattle.report.specs.Report.{SideReport, Report, Reply, ok, refusedWith, refusedAt, reported, damaged}
 use Rattle.ledger.specs.Standing as call
 use Rattle.ledger.specs.Operations.{newLedger, reply}
 use Rattle.ledger.specs.declared.Ledger.{Ledger}

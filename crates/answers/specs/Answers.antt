@@ -3,7 +3,7 @@ use Prim.Native.Nat.{ℕ}
 use mathlib.Core.List.{List, [], _∷_, _++_}
 use Rattle.text.specs.Word.{bytes}
 use Rattle.text.specs.Decimal.{decimal, signedDecimal}
-use Rattle.ledger.specs.Report.{SideReport, Report, Reply, ok, refusedWith, refusedAt, reported, damaged}
+use Rattle.report.specs.Report.{SideReport, Report, Reply, ok, refusedWith, refusedAt, reported, damaged}
 
 -- Texts one after the other.
 unfoldable pub joinedText : List (List ℕ) → List ℕ

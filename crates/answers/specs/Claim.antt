@@ -2,7 +2,7 @@
 use mathlib.Core.Path.{_≡_}
 use mathlib.Core.List.{List, [], _∷_}
 use mathlib.Core.Option.{Option, none, some}
-use Rattle.ledger.specs.Report.{Reply, refusedWith}
+use Rattle.report.specs.Report.{Reply, refusedWith}
 use Rattle.ledger.specs.Standing.{Call, Standing, after}
 use Rattle.ledger.specs.Claim.{Claim}
 

@@ -8,7 +8,7 @@ use lib.ListN.{length}
 use Rattle.rounding.specs.Calls.{answers}
 use Rattle.text.specs.Word.{bytes}
 use Rattle.text.specs.Buffer.{putAt}
-use Rattle.ledger.specs.Report.{Reply, refusedWith}
+use Rattle.report.specs.Report.{Reply, refusedWith}
 use Rattle.ledger.specs.Standing.{Call}
 use Rattle.ledger.specs.Operations.{newLedger, step, reply}
 use Rattle.forms.specs.Calls.{lineCall}

@@ -5,11 +5,11 @@ use mathlib.Core.List.{List, [], _∷_}
 use mathlib.Core.Option.{Option, none, some}
 use lib.Dec.{eqb}
 use Rattle.text.specs.Buffer.{putAt, afterPut}
-use Rattle.ledger.specs.Report as report
-use Rattle.ledger.specs.Report.{refusedWith}
+use Rattle.report.specs.Report as report
+use Rattle.report.specs.Report.{refusedWith}
 use Rattle.ledger.specs.Standing.{Call}
 use Rattle.ledger.specs.Operations.{step, reply}
-use Rattle.ledger.specs.Answers.{reportIn}
+use Rattle.report.specs.Answers.{reportIn}
 use Rattle.ledger.specs.declared.Ledger.{Ledger}
 use Rattle.answers.specs.declared.line.Reply.{Reply}
 use Rattle.answers.specs.declared.line.Reply.the-variants as answer

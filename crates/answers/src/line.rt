@@ -1,8 +1,8 @@
 // What a line does to the ledger, and the text of its answer (document 01, "The text the program tally
 // reads": "Each line prints ..").
 ghost use mathlib.Core.Path.{_≡_};
-ghost use Rattle.ledger.specs.Answers.{answerMeaning, sideMeaning, reportIn, reportMeaning};
-ghost use Rattle.ledger.specs.Report.{refusedWith, refusedAt};
+ghost use Rattle.report.specs.Answers.{answerMeaning, sideMeaning, reportIn, reportMeaning};
+ghost use Rattle.report.specs.Report.{refusedWith, refusedAt};
 ghost use Rattle.ledger.specs.Standing.{report};
 ghost use Rattle.ledger.specs.Operations.{reply};
 ghost use Rattle.forms.specs.Calls.{lineCall};
@@ -11,12 +11,12 @@ ghost use Rattle.forms.specs.Steps.{callIn};
 ghost use Rattle.answers.specs.Steps.{lineStep, lineReply, replyMeaning, placed, putParts};
 use forms::Kind;
 use forms::Line;
-use ledger::Answer;
 use ledger::Entered;
 use ledger::Ledger;
-use ledger::report::Report;
-use ledger::report::Reported;
-use ledger::report::SideReport;
+use report::Report;
+use report::Reported;
+use report::SideReport;
+use report::records::Answer;
 
 // The answer to a line.
 pub enum Reply {

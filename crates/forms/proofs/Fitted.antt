@@ -23,10 +23,12 @@ use Rattle.emissions.specs.declared.Supply.{Supply}
 use Rattle.emissions.specs.declared.Supply.the-variants.{Combined, GridDefault, Captive, CaptiveDefault, Either}
 use Rattle.emissions.specs.declared.Loss.{Loss}
 use Rattle.emissions.specs.declared.Loss.the-variants.{Nothing, Measured, Default20, Default3}
-use Rattle.ledger.specs.Judging.{gridJudged, linesOf, allWithinLimits, plantJudged, siteFits, lossFits, sourceJudged, dropJudged}
-use Rattle.ledger.specs.Standing.{whereGiven, acknowledged, answer}
-use Rattle.ledger.specs.Operations.{noPlant, noSource, recorded, withPlant, withSource, step, reply}
-use Rattle.ledger.specs.declared.Plant.{Plant}
+use Rattle.ledger.specs.Judging.{gridJudged, sourceJudged, dropJudged}
+use Rattle.report.specs.Records.{linesOf, allWithinLimits, plantJudged, siteFits, lossFits, noPlant, noSource}
+use Rattle.ledger.specs.Standing.{whereGiven, answer}
+use Rattle.report.specs.Report.{acknowledged}
+use Rattle.ledger.specs.Operations.{recorded, withPlant, withSource, step, reply}
+use Rattle.report.specs.declared.records.Plant.{Plant}
 use Rattle.ledger.specs.declared.SourceEntry.{SourceEntry}
 use Rattle.ledger.specs.declared.Ledger.{Ledger}
 use Rattle.ledger.proofs.Entries.{plant-facts, source-facts, drop-facts}

@@ -39,8 +39,8 @@ use emissions::Loss;
 use emissions::Side;
 use emissions::Supply;
 use fuel::FuelLine;
-use ledger::Plant;
 use ledger::SourceEntry;
+use report::records::Plant;
 use text::Match;
 
 // The kinds of lines.

@@ -35,15 +35,16 @@ use Rattle.emissions.specs.declared.Supply.the-variants.{Combined, GridDefault,
 use Rattle.emissions.specs.declared.Loss.{Loss}
 use Rattle.emissions.specs.declared.Loss.the-variants.{Nothing, Measured, Default20, Default3}
 use Rattle.emissions.specs.declared.Consumption.{Consumption}
-use Rattle.ledger.specs.Judging.{gridJudged, linesOf, allWithinLimits, plantJudged, siteFits, lossFits, lossMatches, onRead, onEnergy, kept, sourceJudged, isThere, dropJudged}
-use Rattle.ledger.specs.Report.{Books, Numbered, listed, standing, sourcesOf, sourceFigure, Figured, Figures, declined, figured, withFigure, joined, figuresFrom, ofSide, SideReport, sideFits, sideReport, reduction, Report, reportFrom, allFit, Reply, ok, refusedWith, refusedAt, reported, damaged, replyFrom, reportOf}
-use Rattle.ledger.specs.Standing.{Call, enterGrid, enterPlant, enterSource, dropPlant, dropSource, report, acknowledged, answer}
-use Rattle.ledger.specs.Operations.{recorded, intact, reply}
-use Rattle.ledger.specs.declared.Plant.{Plant}
+use Rattle.ledger.specs.Judging.{gridJudged, onRead, onEnergy, kept, sourceJudged, isThere, dropJudged}
+use Rattle.report.specs.Records.{linesOf, allWithinLimits, plantJudged, siteFits, lossFits, lossMatches}
+use Rattle.report.specs.Report.{Books, Numbered, listed, standing, sourcesOf, sourceFigure, Figured, Figures, declined, figured, withFigure, joined, figuresFrom, ofSide, SideReport, sideFits, sideReport, reduction, Report, reportFrom, allFit, Reply, ok, refusedWith, refusedAt, reported, damaged, replyFrom, reportOf, checkedReportOf, acknowledged, intact}
+use Rattle.ledger.specs.Standing.{Call, enterGrid, enterPlant, enterSource, dropPlant, dropSource, report, answer}
+use Rattle.ledger.specs.Operations.{recorded, reply}
+use Rattle.report.specs.declared.records.Plant.{Plant}
 use Rattle.ledger.specs.declared.SourceEntry.{SourceEntry}
-use Rattle.ledger.specs.declared.Source.{Source}
+use Rattle.report.specs.declared.records.Source.{Source}
 use Rattle.ledger.specs.declared.Ledger.{Ledger}
-use Rattle.ledger.proofs.Lists.{numbered, those-length}
+use Rattle.report.proofs.Lists.{numbered, those-length}
 use Rattle.ledger.proofs.Sides.{reduction-differ}
 
 -- ---- the numbers of the refusals
@@ -295,7 +296,7 @@ plain-small (reported r) h = absurd h
 plain-small damaged h = tt
 
 report-small-reply : (l : Ledger) → Small (reply l report)
-unfolding reply
+unfolding reply checkedReportOf
 report-small-reply l = go (intact (recorded l))
   where
     go : (t : Bool) → Small (cond t (reportOf (recorded l)) damaged)

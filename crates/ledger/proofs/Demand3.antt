@@ -18,19 +18,20 @@ use Rattle.emissions.specs.declared.GridEntry.{GridEntry}
 use Rattle.emissions.specs.declared.Grid.{Grid}
 use Rattle.emissions.specs.declared.Grid.the-variants.{Absent, Entered}
 use Rattle.emissions.proofs.Factors.{GridSound}
-use Rattle.ledger.specs.Judging.{gridJudged, plantJudged, sourceJudged, isThere, dropJudged}
-use Rattle.ledger.specs.Report.{Books, Report, Reply, reported, damaged, reportOf}
-use Rattle.ledger.specs.Standing.{Call, enterGrid, enterPlant, enterSource, dropPlant, dropSource, report, Standing, nothing, put, whereGiven, after, keptOf, books, acknowledged, answer}
-use Rattle.ledger.specs.Operations.{noPlant, noSource, newLedger, plantIn, sourceIn, recorded, withPlant, withSource, step, gridIntact, plantIntact, sourceIntact, allIntact, intact, reply}
+use Rattle.ledger.specs.Judging.{gridJudged, sourceJudged, isThere, dropJudged}
+use Rattle.report.specs.Records.{plantJudged, noPlant, noSource, plantIn, sourceIn, gridIntact, plantIntact, sourceIntact, allIntact}
+use Rattle.report.specs.Report.{Books, Report, Reply, reported, damaged, reportOf, checkedReportOf, acknowledged, intact}
+use Rattle.ledger.specs.Standing.{Call, enterGrid, enterPlant, enterSource, dropPlant, dropSource, report, Standing, nothing, put, whereGiven, after, keptOf, books, answer}
+use Rattle.ledger.specs.Operations.{newLedger, recorded, withPlant, withSource, step, reply}
 use Rattle.ledger.specs.Claim.{Claim, Demand3}
-use Rattle.ledger.specs.declared.Plant.{Plant}
+use Rattle.report.specs.declared.records.Plant.{Plant}
 use Rattle.ledger.specs.declared.SourceEntry.{SourceEntry}
-use Rattle.ledger.specs.declared.Source.{Source}
-use Rattle.ledger.specs.declared.PlantRecord.{PlantRecord}
-use Rattle.ledger.specs.declared.SourceRecord.{SourceRecord}
+use Rattle.report.specs.declared.records.Source.{Source}
+use Rattle.report.specs.declared.records.PlantRecord.{PlantRecord}
+use Rattle.report.specs.declared.records.SourceRecord.{SourceRecord}
 use Rattle.ledger.specs.declared.Ledger.{Ledger}
 use Rattle.ledger.proofs.Entries.{grid-facts, PlantFacts, plant-facts, SourceFacts, source-facts, drop-facts}
-use Rattle.ledger.proofs.Lists.{never-some}
+use Rattle.report.proofs.Lists.{never-some}
 use Rattle.ledger.proofs.Figures.{Accepted, report-safe}
 
 -- The ledger shows what stands, and what stands was accepted.
@@ -220,7 +221,7 @@ module _ (l : Ledger) (s : Standing) (h : Agree l s) where
       record { answered = ap (λ (b : Books). answer b c) (h .same); safe = λ r w. absurd (never-reported o r (sym e ∙ w)) }
 
   report-answered : reply l report ≡ reportOf (books s)
-  unfolding reply
+  unfolding reply checkedReportOf
   report-answered =
       ap (λ (b : Books). cond (intact b) (reportOf b) damaged) (h .same)
       ∙ ap (λ (t : Bool). cond t (reportOf (books s)) damaged) (books-intact s (h .accepted))

@@ -23,13 +23,12 @@ use Rattle.emissions.specs.declared.Loss.{Loss}
 use Rattle.emissions.specs.declared.Loss.the-variants.{Nothing, Measured, Default20, Default3}
 use Rattle.emissions.proofs.Outcomes.{never-given, given-is, test-held}
 use Rattle.emissions.proofs.Losses.{LossSound}
-use Rattle.ledger.specs.Judging.{gridJudged, linesOf, allWithinLimits, plantJudged, isThere, dropJudged}
-use Rattle.ledger.specs.Judging.{siteFits, lossFits, lossMatches, metersOf, onRead, onEnergy, kept, sourceJudged}
+use Rattle.ledger.specs.Judging.{gridJudged, isThere, dropJudged, metersOf, onRead, onEnergy, kept, sourceJudged}
+use Rattle.report.specs.Records.{linesOf, allWithinLimits, plantJudged, siteFits, lossFits, lossMatches, isGiven, sourceIntact}
 use Rattle.ledger.specs.Standing.{energyOf}
-use Rattle.ledger.specs.Operations.{isGiven, sourceIntact}
-use Rattle.ledger.specs.declared.Plant.{Plant}
+use Rattle.report.specs.declared.records.Plant.{Plant}
 use Rattle.ledger.specs.declared.SourceEntry.{SourceEntry}
-use Rattle.ledger.specs.declared.Source.{Source}
+use Rattle.report.specs.declared.records.Source.{Source}
 
 -- ---- the grid
 

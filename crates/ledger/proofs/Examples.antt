@@ -33,13 +33,14 @@ use Rattle.emissions.specs.declared.Supply.the-variants.{Combined, GridDefault,
 use Rattle.emissions.specs.declared.Loss.{Loss}
 use Rattle.emissions.specs.declared.Loss.the-variants.{Nothing, Measured, Default20, Default3}
 use Rattle.emissions.proofs.Factors.{GridSound}
-use Rattle.ledger.specs.Judging.{gridJudged, linesOf, allWithinLimits, plantJudged, metersOf, sourceJudged, dropJudged}
-use Rattle.ledger.specs.Report.{Books, standing, those, consumption, plantMilligrams, exactPlant, plantsAt, siteOf, sourcesOf, sourceFigure, Figured, Figures, declined, figured, figuresFrom, ofSide, SideReport, sideReport, Report, reduction, reportFrom, Reply, ok, refusedWith, refusedAt, reported, damaged, allFit, replyFrom, reportOf}
-use Rattle.ledger.specs.Standing.{Call, enterGrid, enterPlant, enterSource, dropPlant, dropSource, report, Standing, nothing, after, energyOf, books, acknowledged, answer}
+use Rattle.ledger.specs.Judging.{gridJudged, metersOf, sourceJudged, dropJudged}
+use Rattle.report.specs.Records.{linesOf, allWithinLimits, plantJudged, noPlant, noSource, allIntact}
+use Rattle.report.specs.Report.{Books, standing, those, consumption, plantMilligrams, exactPlant, plantsAt, siteOf, sourcesOf, sourceFigure, Figured, Figures, declined, figured, figuresFrom, ofSide, SideReport, sideReport, Report, reduction, reportFrom, Reply, ok, refusedWith, refusedAt, reported, damaged, allFit, replyFrom, reportOf, checkedReportOf, acknowledged, intact}
+use Rattle.ledger.specs.Standing.{Call, enterGrid, enterPlant, enterSource, dropPlant, dropSource, report, Standing, nothing, after, energyOf, books, answer}
 use Rattle.ledger.specs.Exact.{exactFigure, gap, figuresOf, exactSide, exactReduction}
-use Rattle.ledger.specs.Operations.{noPlant, noSource, newLedger, step, allIntact, intact, reply}
+use Rattle.ledger.specs.Operations.{newLedger, step, reply}
 use Rattle.ledger.specs.Claim.{ReportSafe}
-use Rattle.ledger.specs.declared.Plant.{Plant}
+use Rattle.report.specs.declared.records.Plant.{Plant}
 use Rattle.ledger.specs.declared.SourceEntry.{SourceEntry}
 use Rattle.ledger.specs.declared.Ledger.{Ledger}
 use Rattle.ledger.proofs.Demand3.{claim-at, records-show}
@@ -86,7 +87,7 @@ zeros = totals 0 0 0
 
 -- The answers to a list of calls from a new ledger. `unfolding run` opens what they compute by.
 unfoldable pub run : List Call → List Reply
-unfolding answers step reply newLedger noPlant noSource answer intact allIntact gridJudged linesOf allWithinLimits plantJudged metersOf sourceJudged dropJudged withinLimits exactMilligrams roundedMilligrams judgedMeters judgedReadings every some roundedAdding roundedTaking settledEnergy sum divided exactRegister isReadableRegister ofBits standing those consumption plantMilligrams plantsAt siteOf sourceFigure figuresFrom ofSide sideReport reduction reportFrom reportOf margin gridDefault captiveJudged lowDefault captiveFactor factorOf chosen lossOf energyWithLosses gramsOf figureOf
+unfolding answers step reply newLedger noPlant noSource answer checkedReportOf intact allIntact gridJudged linesOf allWithinLimits plantJudged metersOf sourceJudged dropJudged withinLimits exactMilligrams roundedMilligrams judgedMeters judgedReadings every some roundedAdding roundedTaking settledEnergy sum divided exactRegister isReadableRegister ofBits standing those consumption plantMilligrams plantsAt siteOf sourceFigure figuresFrom ofSide sideReport reduction reportFrom reportOf margin gridDefault captiveJudged lowDefault captiveFactor factorOf chosen lossOf energyWithLosses gramsOf figureOf
 run calls = answers step reply newLedger calls
 
 -- What stands after a list of calls. `unfolding stands` opens what its exact values compute by.

@@ -26,17 +26,17 @@ use Rattle.emissions.proofs.Factors.{GridSound, FactorSound, chosen-sound}
 use Rattle.emissions.proofs.Losses.{loss-limit}
 use Rattle.emissions.proofs.Figures.{figure-conservative, figure-within-allowance, figure-over}
 use Rattle.ledger.specs.Judging.{metersOf, kept}
-use Rattle.ledger.specs.Report.{Numbered, sourcesOf, plantsOf, consumption, comparesFactor, comparesLoss, siteOf, sourceFigure, Figured, Figures, declined, figured, withFigure, figuresFrom, sideIndex, ofSide, gramsIn, sideReport, Report, reportFrom, refusedWith, refusedAt, reported, allFit, replyFrom, reportOf}
+use Rattle.report.specs.Report.{Numbered, sourcesOf, plantsOf, consumption, comparesFactor, comparesLoss, siteOf, sourceFigure, Figured, Figures, declined, figured, withFigure, figuresFrom, sideIndex, ofSide, gramsIn, sideReport, Report, reportFrom, refusedWith, refusedAt, reported, allFit, replyFrom, reportOf}
 use Rattle.ledger.specs.Standing.{Standing, energyOf, keptOf, books}
 use Rattle.ledger.specs.Exact.{figuredAt, exactEnergyOf, exactFigure, gap, listOf, figuresOf, exactSide, exactReduction, sideAllowance}
 use Rattle.ledger.specs.Claim.{SourceSafe, SideSafe, ReportSafe}
-use Rattle.ledger.specs.declared.Plant.{Plant}
+use Rattle.report.specs.declared.records.Plant.{Plant}
 use Rattle.ledger.specs.declared.SourceEntry.{SourceEntry}
-use Rattle.ledger.specs.declared.Source.{Source}
+use Rattle.report.specs.declared.records.Source.{Source}
 use Rattle.ledger.proofs.Entries.{PlantFacts, SourceFacts}
-use Rattle.ledger.proofs.Sites.{site-sound}
+use Rattle.report.proofs.Sites.{site-sound}
 use Rattle.ledger.proofs.Sides.{side-conservative, reduction-safe, reduction-near, reduction-over}
-use Rattle.ledger.proofs.Lists.{numbered, never-some, standing-all, standing-at, those-all}
+use Rattle.report.proofs.Lists.{numbered, never-some, standing-all, standing-at, those-all}
 
 -- Everything that stands was accepted.
 pub record Accepted (s : Standing) : Type 0 where

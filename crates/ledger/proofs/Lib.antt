@@ -1,6 +1,4 @@
 pub mod Entries
-pub mod Sites
-pub mod Lists
 pub mod Sides
 pub mod Bounds
 pub mod Figures
@@ -8,7 +6,3 @@ pub mod Demand3
 pub mod Examples
 pub mod Judged
 pub mod Bench
-pub mod Intact
-pub mod Signed
-pub mod Walks
-pub mod Totals

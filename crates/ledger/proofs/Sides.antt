@@ -14,7 +14,7 @@ use Rattle.rounding.specs.declared.Direction.the-variants.{Up, Down}
 use Rattle.rounding.proofs.Divided.{rounds}
 use Rattle.rounding.proofs.Integers.{Differ, less-differ}
 use Rattle.rounding.proofs.Ratio.{Within, All, sum-within-equal, within-divided, conservative-widen}
-use Rattle.ledger.specs.Report.{reduction}
+use Rattle.report.specs.Report.{reduction}
 use Rattle.ledger.specs.Exact.{sideAllowance, reductionAllowance}
 
 -- A side: figures that each stand within 200,000 grams of an exact value.

@@ -11,7 +11,7 @@ use Rattle.emissions.specs.Figure.{Figure, gapLimit, gapAllowance}
 use Rattle.emissions.specs.declared.Side.{Side}
 use Rattle.emissions.specs.declared.Side.the-variants.{Project, Leakage, Baseline}
 use Rattle.ledger.specs.Judging.{kept}
-use Rattle.ledger.specs.Report.{SideReport, Report, Reply, reported, sourceFigure}
+use Rattle.report.specs.Report.{SideReport, Report, Reply, reported, sourceFigure}
 use Rattle.ledger.specs.Standing.{Call, Standing, nothing, after, energyOf, books, answer}
 use Rattle.ledger.specs.Exact.{figuredAt, exactFigure, gap, exactSide, exactReduction, sideAllowance, reductionAllowance}
 use Rattle.ledger.specs.Operations.{newLedger, step, reply}

@@ -9,7 +9,7 @@ use Rattle.emissions.specs.Figure.{Figure, exactGrams}
 use Rattle.emissions.specs.declared.Side.{Side}
 use Rattle.emissions.specs.declared.Side.the-variants.{Project, Leakage, Baseline}
 use Rattle.ledger.specs.Judging.{metersOf}
-use Rattle.ledger.specs.Report.{sourcesOf, plantsOf, siteOf, Figured, Figures, declined, figured, figuresFrom, ofSide}
+use Rattle.report.specs.Report.{sourcesOf, plantsOf, siteOf, Figured, Figures, declined, figured, figuresFrom, ofSide}
 use Rattle.ledger.specs.Standing.{Standing, books}
 use Rattle.ledger.specs.declared.SourceEntry.{SourceEntry}
 

@@ -1,9 +1,7 @@
 pub mod Judging
-pub mod Report
 pub mod Standing
 pub mod Exact
 pub mod Operations
 pub mod Claim
 pub mod Answers
 pub mod Bench
-pub mod Steps

@@ -10,13 +10,15 @@ use Rattle.emissions.specs.Factor.{direction}
 use Rattle.emissions.specs.declared.GridEntry.{GridEntry}
 use Rattle.emissions.specs.declared.Grid.{Grid}
 use Rattle.emissions.specs.declared.Grid.the-variants.{Absent, Entered}
-use Rattle.ledger.specs.Judging.{gridJudged, plantJudged, sourceJudged, dropJudged, metersOf, kept}
-use Rattle.ledger.specs.Report.{Books, Reply, ok, refusedWith, reportOf}
-use Rattle.ledger.specs.declared.Plant.{Plant}
+use Rattle.ledger.specs.Judging.{gridJudged, sourceJudged, dropJudged, metersOf, kept}
+use Rattle.report.specs.Records.{plantJudged}
+use Rattle.report.specs.Report.{Books, Reply, acknowledged, reportOf}
+use Rattle.report.specs.declared.records.Plant.{Plant}
 use Rattle.ledger.specs.declared.SourceEntry.{SourceEntry}
-use Rattle.ledger.specs.declared.Source.{Source}
+use Rattle.report.specs.declared.records.Source.{Source}
 
 -- "A list of calls holds grid entries, plant entries, source entries, drops of plants, drops of sources and reports .. with any arguments".
+-- A register among them is any binary32 value, infinities and NaN included: the definitions give a float of another width no meaning.
 pub data Call : Type 0 where
   enterGrid : GridEntry → Call
   enterPlant : ℕ → Plant → Call
@@ -67,10 +69,6 @@ abbrev pub books : Standing → Books
 books s = record { grid = s .grid; plant = s .plant; source = λ n. keptOf (s .source n) }
 
 -- The answer that the rules fix for each call.
-abbrev pub acknowledged : {A : Type 0} → Outcome A → Reply
-acknowledged (refused n) = refusedWith n
-acknowledged (given a) = ok
-
 unfoldable pub answer : Books → Call → Reply
 answer b (enterGrid g) = acknowledged (gridJudged g)
 answer b (enterPlant n p) = acknowledged (plantJudged n p)

@@ -21,18 +21,18 @@ use emissions::Loss;
 use emissions::Side;
 use emissions::Supply;
 use fuel::FuelLine;
-use ledger::Answer;
 use ledger::Entered;
 use ledger::Ledger;
-use ledger::Plant;
-use ledger::PlantRecord;
-use ledger::Source;
 use ledger::SourceEntry;
-use ledger::SourceRecord;
-use ledger::report::Report;
-use ledger::report::Reported;
-use ledger::report::SideReport;
 use libc::STDOUT_FILENO;
+use report::Report;
+use report::Reported;
+use report::SideReport;
+use report::records::Answer;
+use report::records::Plant;
+use report::records::PlantRecord;
+use report::records::Source;
+use report::records::SourceRecord;
 
 fn field_u8(line: &[u8], i: usize) -> u8 {
     (vectors::field(line, i) % 0x100) as u8

@@ -7,18 +7,18 @@ use emissions::Loss;
 use emissions::Side;
 use emissions::Supply;
 use fuel::FuelLine;
-use ledger::Answer;
 use ledger::Ledger;
-use ledger::Plant;
-use ledger::PlantRecord;
-use ledger::Source;
 use ledger::SourceEntry;
-use ledger::SourceRecord;
-use ledger::report::Reported;
 use metering::Interval;
 use metering::Meter;
 use metering::Registers;
 use metering::Sign;
+use report::Reported;
+use report::records::Answer;
+use report::records::Plant;
+use report::records::PlantRecord;
+use report::records::Source;
+use report::records::SourceRecord;
 
 // The sum of two numbers, of which only the lower 32 bits count.
 fn folded(a: u64, b: u64) -> u64 {

@@ -8,7 +8,7 @@ use lib.ListN.{length, take, drop}
 use borrow.Author.Tests.{le-leb}
 use denote.Ref.{now}
 use Rattle.text.proofs.Buffer.{after-fits}
-use Rattle.ledger.specs.Report.{Reply}
+use Rattle.report.specs.Report.{Reply}
 use Rattle.forms.specs.Calls.{lineCall}
 use Rattle.answers.specs.Answers.{replyParts}
 use Rattle.answers.specs.Input.{output, needed}

@@ -1,7 +1,7 @@
 -- `answers::line::entry_reply` meets its contract: each case in turn. Assumes nothing.
 use borrow.Author.Needs.{needs}
 use mathlib.Core.Path.{sym, ap}
-use Rattle.ledger.specs.Answers.{answerMeaning}
+use Rattle.report.specs.Answers.{answerMeaning}
 use Rattle.answers.proofs.line.entry_reply.Statement.{statement}
 use Rattle.answers.proofs.line.entry_reply.Tie as tie
 

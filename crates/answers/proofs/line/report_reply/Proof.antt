@@ -1,7 +1,7 @@
 -- `answers::line::report_reply` meets its contract: each case in turn. Assumes nothing.
 use borrow.Author.Needs.{needs}
 use mathlib.Core.Path.{sym, ap}
-use Rattle.ledger.specs.Answers.{reportMeaning}
+use Rattle.report.specs.Answers.{reportMeaning}
 use Rattle.answers.proofs.line.report_reply.Statement.{statement}
 use Rattle.answers.proofs.line.report_reply.Tie as tie
 

@@ -3,8 +3,9 @@ use borrow.Author.Needs.{needs}
 use mathlib.Core.Path.{refl, _∙_}
 use mathlib.Core.List.{List}
 use Rattle.ledger.specs.Standing.{answer}
-use Rattle.ledger.specs.Operations.{noPlant, step, reply}
-use Rattle.ledger.specs.declared.PlantRecord.{PlantRecord}
+use Rattle.report.specs.Records.{noPlant}
+use Rattle.ledger.specs.Operations.{step, reply}
+use Rattle.report.specs.declared.records.PlantRecord.{PlantRecord}
 use Rattle.ledger.specs.declared.Ledger.{Ledger}
 use Rattle.ledger.proofs.Judged.{drop-over, drop-leaves, drop-answers}
 use Rattle.ledger.proofs.Ledger.drop_plant.Statement.{statement}

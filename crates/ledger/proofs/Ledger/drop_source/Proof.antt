@@ -3,8 +3,9 @@ use borrow.Author.Needs.{needs}
 use mathlib.Core.Path.{refl, _∙_}
 use mathlib.Core.List.{List}
 use Rattle.ledger.specs.Standing.{answer}
-use Rattle.ledger.specs.Operations.{noSource, step, reply}
-use Rattle.ledger.specs.declared.SourceRecord.{SourceRecord}
+use Rattle.report.specs.Records.{noSource}
+use Rattle.ledger.specs.Operations.{step, reply}
+use Rattle.report.specs.declared.records.SourceRecord.{SourceRecord}
 use Rattle.ledger.specs.declared.Ledger.{Ledger}
 use Rattle.ledger.proofs.Judged.{drop-over, drop-leaves, drop-answers}
 use Rattle.ledger.proofs.Ledger.drop_source.Statement.{statement}

@@ -4,11 +4,12 @@ use mathlib.Core.Path.{_≡_, sym, ap, _∙_}
 use Prim.Native.Nat.{_≤_}
 use native.Mathlib.Omega.{arith}
 use Rattle.emissions.specs.Outcome.{given}
-use Rattle.ledger.specs.Judging.{plantJudged}
+use Rattle.report.specs.Records.{plantJudged}
 use Rattle.ledger.specs.Standing.{answer}
 use Rattle.ledger.specs.Operations.{step, reply}
-use Rattle.ledger.specs.Answers.{answerMeaning}
-use Rattle.ledger.proofs.Judged.{was-refused, plant-accepted}
+use Rattle.report.specs.Answers.{answerMeaning}
+use Rattle.report.proofs.Judged.{was-refused}
+use Rattle.ledger.proofs.Judged.{plant-accepted}
 use Rattle.ledger.proofs.Ledger.enter_plant.Statement.{statement}
 use Rattle.ledger.proofs.Ledger.enter_plant.Tie as tie
 

@@ -4,7 +4,8 @@ use mathlib.Core.Path.{_≡_, sym, ap, _∙_}
 use native.Mathlib.Omega.{arith}
 use Rattle.emissions.specs.Outcome.{given}
 use Rattle.ledger.specs.Judging.{sourceJudged}
-use Rattle.ledger.specs.Standing.{acknowledged, answer}
+use Rattle.report.specs.Report.{acknowledged}
+use Rattle.ledger.specs.Standing.{answer}
 use Rattle.ledger.specs.Operations.{step, reply}
 use Rattle.ledger.specs.Answers.{sourceMeaning}
 use Rattle.ledger.proofs.Entries.{source-facts}

@@ -1,67 +1,15 @@
--- `ledger::Ledger::report` meets its contract: the answer where each of the three tests passes, and `Damaged` where one does not. Assumes
--- nothing.
+-- `ledger::Ledger::report` meets its contract: its records are reported on. Assumes nothing.
 use borrow.Author.Needs.{needs}
-use mathlib.Core.Path.{sym, _∙_}
-use Rattle.ledger.specs.Operations.{intact, reply}
+use Rattle.ledger.specs.Operations.{reply}
 use Rattle.ledger.proofs.Ledger.report.Statement.{statement}
 use Rattle.ledger.proofs.Ledger.report.Tie as tie
 
-grid-is-intact-requires : tie.Need-grid-is-intact-requires
-grid-is-intact-requires c κs = search needs
-
-plants-are-intact-requires : tie.Need-plants-are-intact-requires
-plants-are-intact-requires c κs = search needs
-
-sources-are-intact-requires : tie.Need-sources-are-intact-requires
-sources-are-intact-requires c κs = search needs
-
-answer-requires : tie.Need-answer-requires
-answer-requires c κs = (
-  sym (c .before .before .before .before .before .grid-is-intact .ensures) ∙ c .before .before .before .before .if1 .taken,
-  sym (c .before .before .before .plants-are-intact .ensures) ∙ c .before .before .if2 .taken,
-  sym (c .before .sources-are-intact .ensures) ∙ c .if3 .taken,
-)
+report-of-requires : tie.Need-report-of-requires
+report-of-requires c κs = search needs
 
 returns : tie.Need-returns
-unfolding intact reply
-returns c =
-    rw (
-      sym (c .before .before .before .before .before .before .grid-is-intact .ensures) ∙ c .before .before .before .before .before .if1 .taken,
-      sym (c .before .before .before .before .plants-are-intact .ensures) ∙ c .before .before .before .if2 .taken,
-      sym (c .before .before .sources-are-intact .ensures) ∙ c .before .if3 .taken,
-    )
-    (c .answer .ensures)
-
-returns-2 : tie.Need-returns-2
-unfolding intact reply
-returns-2 c =
-    rw (
-      sym (c .before .before .before .before .before .grid-is-intact .ensures) ∙ c .before .before .before .before .if1 .taken,
-      sym (c .before .before .before .plants-are-intact .ensures) ∙ c .before .before .if2 .taken,
-      sym (c .before .sources-are-intact .ensures) ∙ c .if3 .left,
-    )
-
-returns-3 : tie.Need-returns-3
-unfolding intact reply
-returns-3 c =
-    rw (
-      sym (c .before .before .before .grid-is-intact .ensures) ∙ c .before .before .if1 .taken,
-      sym (c .before .plants-are-intact .ensures) ∙ c .if2 .left,
-    )
-
-returns-4 : tie.Need-returns-4
-unfolding intact reply
-returns-4 c = rw (sym (c .before .grid-is-intact .ensures) ∙ c .if1 .left)
+unfolding reply
+returns c = c .report-of .ensures
 
 pub report-spec : {M : Type 1} → statement M
-report-spec =
-    tie.close
-    (tie.spec
-    grid-is-intact-requires
-    plants-are-intact-requires
-    sources-are-intact-requires
-    answer-requires
-    returns
-    returns-2
-    returns-3
-    returns-4)
+report-spec = tie.close (tie.spec report-of-requires returns)

@@ -10,7 +10,8 @@ use Rattle.metering.specs.declared.EnergyJudged.{EnergyJudged}
 use Rattle.metering.specs.declared.EnergyJudged.the-variants as energyJudged
 use Rattle.emissions.specs.Outcome.{refused, refuseUnless}
 use Rattle.ledger.specs.Judging.{sourceJudged}
-use Rattle.ledger.proofs.Judged.{tested, settled, summed, source-number, source-site, source-loss, source-sums}
+use Rattle.report.proofs.Judged.{tested}
+use Rattle.ledger.proofs.Judged.{settled, summed, source-number, source-site, source-loss, source-sums}
 use Rattle.ledger.proofs.SourceEntry.judged.Statement.{statement}
 use Rattle.ledger.proofs.SourceEntry.judged.Tie as tie
 

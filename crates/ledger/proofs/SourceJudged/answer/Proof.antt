@@ -1,7 +1,7 @@
 -- `ledger::SourceJudged::answer` meets its contract: each case in turn. Assumes nothing.
 use borrow.Author.Needs.{needs}
 use mathlib.Core.Path.{sym, ap}
-use Rattle.ledger.specs.Standing.{acknowledged}
+use Rattle.report.specs.Report.{acknowledged}
 use Rattle.ledger.specs.Answers.{sourceMeaning}
 use Rattle.ledger.specs.declared.SourceJudged.{SourceJudged}
 use Rattle.ledger.proofs.SourceJudged.answer.Statement.{statement}

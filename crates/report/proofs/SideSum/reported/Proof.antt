@@ -1,0 +1,16 @@
+-- `report::SideSum::reported` meets its contract: the grams divided in the side's direction. Assumes nothing.
+use borrow.Author.Needs.{needs}
+use Rattle.report.proofs.SideSum.reported.Statement.{statement}
+use Rattle.report.proofs.SideSum.reported.Tie as tie
+
+direction-requires : tie.Need-direction-requires
+direction-requires c κs = search needs
+
+divide-requires : tie.Need-divide-requires
+divide-requires c κs = search needs
+
+returns : tie.Need-returns
+returns c = rw (c .divide .ensures, c .before .direction .ensures)
+
+pub reported-spec : {M : Type 1} → statement M
+reported-spec = tie.close (tie.spec direction-requires divide-requires returns)

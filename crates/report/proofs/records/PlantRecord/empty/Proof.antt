@@ -1,0 +1,12 @@
+-- `report::records::PlantRecord::empty` meets its contract: it is the empty record. Assumes nothing.
+use mathlib.Core.Path.{refl}
+use Rattle.report.specs.Records.{noPlant}
+use Rattle.report.proofs.records.PlantRecord.empty.Statement.{statement}
+use Rattle.report.proofs.records.PlantRecord.empty.Tie as tie
+
+returns : tie.Need-returns
+unfolding noPlant
+returns c = refl
+
+pub empty-spec : {M : Type 1} → statement M
+empty-spec = tie.close (tie.spec returns)

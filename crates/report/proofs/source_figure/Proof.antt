@@ -1,0 +1,139 @@
+-- `report::source_figure` meets its contract: the factor, then the loss, then the grams, each by its call. Assumes nothing.
+use borrow.Author.Needs.{needs}
+use mathlib.Core.Path.{_≡_, sym, ap, _∙_}
+use Prim.Native.Nat.{ℕ, _≤_}
+use Rattle.metering.specs.Reading.{limit}
+use Rattle.emissions.specs.Outcome.{Outcome, refused}
+use Rattle.emissions.specs.Factor.{factorLimit}
+use Rattle.emissions.specs.Loss.{lossOf}
+use Rattle.emissions.specs.Answers.{factorMeaning, factorRefusal, lossMeaning, lossRefusal}
+use Rattle.emissions.specs.Steps.{supplyFactor}
+use Rattle.emissions.specs.declared.FactorJudged.{FactorJudged}
+use Rattle.emissions.specs.declared.LossJudged.{LossJudged}
+use Rattle.emissions.proofs.Supplies.{factor-by-supply, factor-limit}
+use Rattle.report.specs.Report.{siteOf}
+use Rattle.report.specs.Steps.{sitePlants, factorAt}
+use Rattle.report.proofs.Walks.{grid-sound, source-fits, open-limit, grams-limit, no-factor, no-loss, both-parts}
+use Rattle.report.proofs.source_figure.Statement.{statement}
+use Rattle.report.proofs.source_figure.Tie as tie
+
+direction-requires : tie.Need-direction-requires
+direction-requires c κs = search needs
+
+named-site-factor-requires : tie.Need-named-site-factor-requires
+named-site-factor-requires c κs = search needs
+
+factor-requires : tie.Need-factor-requires
+factor-requires c κs = search needs
+
+-- What the calls gave, by what is known of it.
+factored : (c : tie.After-factor) (j : FactorJudged) → c .factor .result ≡ j
+    → let b = c .before .before in
+    let a = b .before .args in
+    factorAt (b .direction .result) (a .grid) (sitePlants (a .plants)) (a .totals .factor) (a .source .supply) ≡ factorMeaning j
+factored c j e =
+    let b = c .before .before in
+    let a = b .before .args in
+    sym (factor-by-supply (b .direction .result) (a .grid) (siteOf (sitePlants (a .plants))) (a .totals .factor) (a .source .supply))
+    ∙ ap (λ (o : Outcome ℕ). supplyFactor (b .direction .result) (a .grid) o (a .totals .factor) (a .source .supply)) (sym (c .before .named-site-factor .ensures))
+    ∙ sym (c .factor .ensures) ∙ ap factorMeaning e
+
+enum-known-judged : tie.Need-enum-known-judged
+enum-known-judged c = search needs
+
+enum-told : tie.Need-enum-told
+enum-told c = search needs
+
+refusal-requires : tie.Need-refusal-requires
+refusal-requires c κs = search needs
+
+returns : tie.Need-returns
+returns c =
+    let b = c .before .before .before in
+    let a = b .before .before .before .args in
+    let told = c .before .enum-told .given .1 in (
+      ap refused (c .refusal .ensures ∙ ap factorRefusal told)
+          ∙ no-factor (a .grid) (sitePlants (a .plants)) (a .totals) (a .source) _ (b .before .before .direction .ensures) _ (factored b _ told),
+      tt,
+    )
+
+judged-requires : tie.Need-judged-requires
+judged-requires c κs = search needs
+
+opened : (c : tie.After-judged2) (j : LossJudged) → c .judged2 .result ≡ j
+    → let b = c .before .before .before .before .before .before in
+    let a = b .before .args in
+    lossOf (b .direction .result) (a .totals .loss) (a .source .loss) ≡ lossMeaning j
+opened c j e = sym (c .judged2 .ensures) ∙ ap lossMeaning e
+
+enum-known-open : tie.Need-enum-known-open
+enum-known-open c = search needs
+
+enum-told-2 : tie.Need-enum-told-2
+enum-told-2 c = search needs
+
+refusal-requires-2 : tie.Need-refusal-requires-2
+refusal-requires-2 c κs = search needs
+
+returns-2 : tie.Need-returns-2
+returns-2 c =
+    let l = c .before .before .before in
+    let b = l .before .before .before .before in
+    let a = b .before .before .before .args in
+    let told = c .before .enum-told2 .given .1 in (
+      ap refused (c .refusal2 .ensures ∙ ap lossRefusal told)
+          ∙ no-loss (a .grid) (sitePlants (a .plants)) (a .totals) (a .source) _ (b .before .before .direction .ensures) _
+          (factored b _ (l .before .before .judged .given .1)) _ (opened l _ told),
+      tt,
+    )
+
+-- The energy, the loss and the factor are within their limits.
+limits : (c : tie.After-known-told2)
+    → let a = c .before .before .before .before .before .before .before .before .before .before .args in
+    (a .source .energy ≤ limit)
+    × (c .before .«open» .given .0 .0 ≤ 5000)
+    × (c .before .before .before .before .before .judged .given .0 .0 ≤ factorLimit)
+limits c =
+    let l = c .before .before .before in
+    let b = l .before .before .before .before in
+    let a = b .before .before .before in
+    let fits = source-fits (a .args .source) (a .pre .2) in (
+      fits .1,
+      open-limit _ (a .args .totals .loss) (a .args .source .loss) _ (fits .0) (opened l _ (c .before .«open» .given .1)),
+      factor-limit _ (a .args .grid) (siteOf (sitePlants (a .args .plants))) (a .args .totals .factor) (a .args .source .supply)
+          (grid-sound (a .args .grid) (a .pre .0)) _ (factored b _ (l .before .before .judged .given .1)),
+    )
+
+emissions-of-requires : tie.Need-emissions-of-requires
+emissions-of-requires c κs = limits c
+
+returns-3 : tie.Need-returns-3
+returns-3 c =
+    let l = c .before .before .before .before in
+    let b = l .before .before .before .before in
+    let a = b .before .before .before .args in
+    let h = limits (c .before) in (
+      both-parts (a .grid) (sitePlants (a .plants)) (a .totals) (a .source) _ (b .before .before .direction .ensures) _
+          (factored b _ (l .before .before .judged .given .1)) _ _ _
+          (opened l _ (c .before .before .«open» .given .1)) (c .emissions-of .ensures .0) (c .emissions-of .ensures .1),
+      rw (c .emissions-of .ensures .1) (grams-limit _ _ _ _ (h .0) (h .1) (h .2)),
+    )
+
+pub source-figure-spec : {M : Type 1} → statement M
+source-figure-spec =
+    tie.close
+    (tie.spec
+    direction-requires
+    named-site-factor-requires
+    factor-requires
+    enum-known-judged
+    enum-told
+    refusal-requires
+    returns
+    judged-requires
+    enum-known-open
+    enum-told-2
+    refusal-requires-2
+    returns-2
+    emissions-of-requires
+    returns-3)

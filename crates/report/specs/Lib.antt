@@ -1,0 +1,4 @@
+pub mod Records
+pub mod Report
+pub mod Answers
+pub mod Steps

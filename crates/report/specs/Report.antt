@@ -1,0 +1,238 @@
+-- The report on what stands (document 01, "Losses and factors", "Report", and "A report gives for each side ..").
+use Prim.Native.Nat.{ℕ, zero, suc}
+use mathlib.Core.Bool.{Bool, true, false, cond, _&&_}
+use mathlib.Core.List.{List, [], _∷_, map}
+use mathlib.Core.Option.{Option, none, some}
+use lib.Dec.{leb, eqb}
+use lib.IntN.{ℤ, pos, _-ℤ_}
+use lib.ListN.{length}
+use Rattle.rounding.specs.Divided.{divided, sum}
+use Rattle.rounding.specs.Ratio.{Ratio, sumᵣ}
+use Rattle.rounding.specs.declared.Direction.{Direction}
+use Rattle.fuel.specs.Fuel.{exactMilligrams, roundedMilligrams}
+use Rattle.emissions.specs.Outcome.{Outcome, refused, given, andThen}
+use Rattle.emissions.specs.Factor.{direction, Site, factorOf, chosen}
+use Rattle.emissions.specs.Loss.{isProject, isBaseline, lossOf}
+use Rattle.emissions.specs.Figure.{Figure, figureOf}
+use Rattle.emissions.specs.declared.Side.{Side}
+use Rattle.emissions.specs.declared.Side.the-variants.{Project, Leakage, Baseline}
+use Rattle.emissions.specs.declared.Supply.{Supply}
+use Rattle.emissions.specs.declared.Supply.the-variants.{Combined, GridDefault, Captive, CaptiveDefault, Either}
+use Rattle.emissions.specs.declared.Grid.{Grid}
+use Rattle.emissions.specs.declared.Consumption.{Consumption}
+use Rattle.report.specs.Records.{linesOf, plantPlace, sourcePlace, gridIntact, plantIntact, sourceIntact, allIntact}
+use Rattle.report.specs.declared.records.Plant.{Plant}
+use Rattle.report.specs.declared.records.Source.{Source}
+use Rattle.report.specs.declared.records.PlantRecord.{PlantRecord}
+use Rattle.report.specs.declared.records.SourceRecord.{SourceRecord}
+
+-- What a report reads: the grid, and the plant and the source under each number.
+pub record Books : Type 0 where
+  pub grid : Grid
+  pub plant : ℕ → Option Plant
+  pub source : ℕ → Option Source
+
+-- What stands under `count` numbers from `from`, by rising number.
+pub record Numbered (A : Type 0) : Type 0 where
+  pub number : ℕ
+  pub item : A
+
+abbrev pub listed : {A : Type 0} → ℕ → Option A → List (Numbered A) → List (Numbered A)
+listed n none l = l
+listed n (some a) l = record { number = n; item = a } ∷ l
+
+unfoldable pub standing : {A : Type 0} → (ℕ → Option A) → ℕ → ℕ → List (Numbered A)
+standing place from zero = []
+standing place from (suc count) = listed from (place from) (standing place (suc from) count)
+
+-- "Sources are numbered 0 to 31, plants 0 to 7".
+abbrev pub sourcesOf : Books → List (Numbered Source)
+sourcesOf b = standing (b .source) 0 32
+
+abbrev pub plantsOf : Books → List (Numbered Plant)
+plantsOf b = standing (b .plant) 0 8
+
+-- Those of a list that pass a test.
+unfoldable pub those : {A : Type 0} → (A → Bool) → List A → List A
+those p [] = []
+those p (x ∷ xs) = cond (p x) (x ∷ those p xs) (those p xs)
+
+-- ---- P, B, P' and B'
+
+-- Whether a source counts: by its supply, and by whether it is a project or leakage source or a baseline source.
+abbrev pub countsIn : (Supply → Bool) → (Direction → Bool) → Numbered Source → Bool
+countsIn supplies sides x = supplies (x .item .supply) && sides (direction (x .item .side))
+
+abbrev pub energyIn : Numbered Source → ℕ
+energyIn x = x .item .energy
+
+-- "the sum of E over project and leakage sources with .. supply, B over baseline sources", and how many of each stand.
+unfoldable pub consumption : (Supply → Bool) → List (Numbered Source) → Consumption
+consumption supplies xs =
+    record {
+      project = sum (map energyIn (those (countsIn supplies isProject) xs));
+      baseline = sum (map energyIn (those (countsIn supplies isBaseline) xs));
+      projects = length (those (countsIn supplies isProject) xs);
+      baselines = length (those (countsIn supplies isBaseline) xs);
+    }
+
+-- P and B: "with combined or griddefault supply".
+abbrev pub comparesFactor : Supply → Bool
+comparesFactor Combined = true
+comparesFactor GridDefault = true
+comparesFactor (Captive S) = false
+comparesFactor CaptiveDefault = false
+comparesFactor (Either S) = false
+
+-- P' and B': "sums of E like P and B, over combined, griddefault and either".
+abbrev pub comparesLoss : Supply → Bool
+comparesLoss Combined = true
+comparesLoss GridDefault = true
+comparesLoss (Captive S) = false
+comparesLoss CaptiveDefault = false
+comparesLoss (Either S) = true
+
+-- ---- a site
+
+-- A plant's milligrams: its fuel lines, each rounded, and exactly.
+unfoldable pub plantMilligrams : Direction → Plant → ℕ
+plantMilligrams dir p = sum (map (roundedMilligrams dir) (linesOf p))
+
+unfoldable pub exactPlant : Plant → Ratio
+exactPlant p = sumᵣ (map exactMilligrams (linesOf p))
+
+-- "each plant at S".
+unfoldable pub plantsAt : ℕ → List (Numbered Plant) → List Plant
+plantsAt S xs = map item (those (λ (x : Numbered Plant). eqb (x .item .site) S) xs)
+  where
+    item : Numbered Plant → Plant
+    item x = x .item
+
+unfoldable pub siteOf : List (Numbered Plant) → ℕ → Site
+siteOf xs S =
+    record {
+      milligrams = λ dir. sum (map (plantMilligrams dir) (plantsAt S xs));
+      exact = sumᵣ (map exactPlant (plantsAt S xs));
+      generation = sum (map (λ (p : Plant). p .generation) (plantsAt S xs));
+    }
+
+-- ---- the figure of each source
+
+-- "for each source, by rising number: 8 .. 9 .. 10 .. 11 .. 12".
+unfoldable pub sourceFigure : Books → Source → Outcome Figure
+sourceFigure b s =
+    andThen (chosen (direction (s .side)) (b .grid) (siteOf (plantsOf b)) (consumption comparesFactor (sourcesOf b)) (s .supply)) (λ c.
+    andThen (lossOf (direction (s .side)) (consumption comparesLoss (sourcesOf b)) (s .loss)) (λ T.
+    given (figureOf (direction (s .side)) (s .energy) c T (factorOf (direction (s .side)) (b .grid) (siteOf (plantsOf b)) c))))
+
+-- A source with its figure; or the first refusal, which "carries the source's number".
+pub record Figured : Type 0 where
+  pub number : ℕ
+  pub side : Side
+  pub figure : Figure
+
+pub data Figures : Type 0 where
+  declined : ℕ → ℕ → Figures
+  figured : List Figured → Figures
+
+abbrev pub joined : Figured → Figures → Figures
+joined f (declined n k) = declined n k
+joined f (figured fs) = figured (f ∷ fs)
+
+abbrev pub withFigure : Numbered Source → Outcome Figure → Figures → Figures
+withFigure x (refused n) rest = declined n (x .number)
+withFigure x (given f) rest = joined (record { number = x .number; side = x .item .side; figure = f }) rest
+
+unfoldable pub figuresFrom : Books → List (Numbered Source) → Figures
+figuresFrom b [] = figured []
+figuresFrom b (x ∷ xs) = withFigure x (sourceFigure b (x .item)) (figuresFrom b xs)
+
+-- ---- sides and the reduction
+
+abbrev pub sideIndex : Side → ℕ
+sideIndex Project = 0
+sideIndex Leakage = 1
+sideIndex Baseline = 2
+
+unfoldable pub ofSide : Side → List Figured → List Figured
+ofSide side fs = those (λ (f : Figured). eqb (sideIndex (f .side)) (sideIndex side)) fs
+
+-- "its grams (sum of source figures), its tonnes (grams ÷ 1,000,000, rounded as the side) and its number of standing sources".
+pub record SideReport : Type 0 where
+  pub tonnes : ℕ
+  pub grams : ℕ
+  pub sources : ℕ
+
+abbrev pub gramsIn : Figured → ℕ
+gramsIn f = f .figure .grams
+
+unfoldable pub sideReport : Side → List Figured → SideReport
+sideReport side fs =
+    record {
+      tonnes = divided (direction side) (sum (map gramsIn (ofSide side fs))) 1000000;
+      grams = sum (map gramsIn (ofSide side fs));
+      sources = length (ofSide side fs);
+    }
+
+-- "then the reduction: baseline less project less leakage tonnes, signed".
+pub record Report : Type 0 where
+  pub project : SideReport
+  pub leakage : SideReport
+  pub baseline : SideReport
+  pub reduction : ℤ
+
+unfoldable pub reduction : ℕ → ℕ → ℕ → ℤ
+reduction baseline project leakage = pos baseline -ℤ pos project -ℤ pos leakage
+
+unfoldable pub reportFrom : List Figured → Report
+reportFrom fs =
+    record {
+      project = sideReport Project fs;
+      leakage = sideReport Leakage fs;
+      baseline = sideReport Baseline fs;
+      reduction = reduction (sideReport Baseline fs .tonnes) (sideReport Project fs .tonnes) (sideReport Leakage fs .tonnes);
+    }
+
+-- ---- the answer to a report
+
+-- An answer in the paper's numbers and values: accepted, refused with a number, refused with a number at a source, or a report. `damaged` is
+-- the answer to a report on a ledger that no list of calls leaves, on which the paper says nothing.
+pub data Reply : Type 0 where
+  ok : Reply
+  refusedWith : ℕ → Reply
+  refusedAt : ℕ → ℕ → Reply
+  reported : Report → Reply
+  damaged : Reply
+
+-- "After all sources, 13 a side above 1,000,000,000,000,000 grams."
+abbrev pub sideFits : SideReport → Bool
+sideFits s = leb (s .grams) 1000000000000000
+
+abbrev pub allFit : Report → Bool
+allFit r = sideFits (r .project) && sideFits (r .leakage) && sideFits (r .baseline)
+
+abbrev pub replyFrom : Figures → Reply
+replyFrom (declined n k) = refusedAt n k
+replyFrom (figured fs) = cond (allFit (reportFrom fs)) (reported (reportFrom fs)) (refusedWith 13)
+
+unfoldable pub reportOf : Books → Reply
+reportOf b = replyFrom (figuresFrom b (sourcesOf b))
+
+-- The answer to an entry or a drop.
+abbrev pub acknowledged : {A : Type 0} → Outcome A → Reply
+acknowledged (refused n) = refusedWith n
+acknowledged (given a) = ok
+
+-- ---- a report on records
+
+-- What the records of a ledger show.
+abbrev pub booksOf : Grid → List PlantRecord → List SourceRecord → Books
+booksOf grid plants sources = record { grid = grid; plant = plantPlace plants; source = sourcePlace sources }
+
+-- Whether everything that stands meets the limits that an accepted entry meets.
+unfoldable pub intact : Books → Bool
+intact b = gridIntact (b .grid) && allIntact plantIntact (b .plant) 8 && allIntact sourceIntact (b .source) 32
+
+-- The answer to a report on what records show: `damaged` where something that stands is not what an accepted entry leaves.
+unfoldable pub checkedReportOf : Books → Reply
+checkedReportOf b = cond (intact b) (reportOf b) damaged
