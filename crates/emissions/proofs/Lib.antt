@@ -1,4 +1,3 @@
-pub mod Outcomes
 pub mod Factors
 pub mod Losses
 pub mod Figures

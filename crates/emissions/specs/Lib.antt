@@ -1,4 +1,3 @@
-pub mod Outcome
 pub mod Factor
 pub mod Loss
 pub mod Figure

@@ -1,18 +1,20 @@
--- What callers know of a fuel line: it rounds the exact quotient, and is bounded within the limits. Assumes nothing.
+-- What callers know of a fuel line: it rounds the exact quotient, and within the limits it is given and bounded. Assumes nothing.
 use Prim.Native.Nat.{ℕ, _*_, _<_, _≤_}
-use mathlib.Core.Path.{_≡_}
+use mathlib.Core.Path.{_≡_, sym, _∙_}
 use mathlib.Core.Bool.{true, _&&_}
 use native.Mathlib.Omega.{arith}
 use native.Mathlib.Nat.{mul-le-mul-right, mul-le-mul-left}
 use lib.Dec.{leb}
 use borrow.Author.Tests.{leb-true}
+use Rattle.rounding.specs.Outcome.{refused, given}
 use Rattle.rounding.specs.Divided.{Rounds}
 use Rattle.rounding.specs.Ratio.{whole, Conservative}
 use Rattle.rounding.specs.declared.Direction.{Direction}
+use Rattle.rounding.proofs.Outcomes.{never-given, given-is}
 use Rattle.rounding.proofs.Divided.{rounds, divided-at-most}
 use Rattle.rounding.proofs.Ratio.{rounds-conservative}
 use Rattle.rounding.proofs.Tests.{and-both}
-use Rattle.fuel.specs.Fuel.{withinLimits, exactMilligrams, roundedMilligrams}
+use Rattle.fuel.specs.Fuel.{withinLimits, exactMilligrams, roundedMilligrams, lineMilligrams}
 use Rattle.fuel.specs.declared.FuelLine.{FuelLine}
 
 -- The denominator of the exact milligrams is above 0.
@@ -29,6 +31,20 @@ line-rounds dir l = rounds dir (exactMilligrams l .plus) (exactMilligrams l .ove
 pub line-conservative : (dir : Direction) (l : FuelLine) → Conservative dir (roundedMilligrams dir l) (exactMilligrams l) (whole 1)
 unfolding exactMilligrams
 line-conservative dir l = rounds-conservative dir (exactMilligrams l .plus) (exactMilligrams l .over) (roundedMilligrams dir l) (line-rounds dir l)
+
+-- ---- what a line within the limits gives
+
+line-given : (dir : Direction) (l : FuelLine) → withinLimits l ≡ true → lineMilligrams dir l ≡ given (roundedMilligrams dir l)
+unfolding lineMilligrams
+line-given dir l h = rw h
+
+-- It is not refused.
+pub line-refused : (dir : Direction) (l : FuelLine) (n : ℕ) → withinLimits l ≡ true → lineMilligrams dir l ≡ refused n → ⊥
+line-refused dir l n h e = never-given (sym e ∙ line-given dir l h)
+
+-- What is given is the rounded line.
+pub line-is : (dir : Direction) (l : FuelLine) (w : ℕ) → withinLimits l ≡ true → lineMilligrams dir l ≡ given w → w ≡ roundedMilligrams dir l
+line-is dir l w h e = given-is (sym e ∙ line-given dir l h)
 
 -- ---- the bound within the limits
 

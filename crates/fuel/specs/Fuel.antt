@@ -1,13 +1,18 @@
 -- A fuel line (document 01, "Losses and factors", captive, and "Plant entry", number 2).
 use Prim.Native.Nat.{ℕ, _*_}
-use mathlib.Core.Bool.{Bool, cond, _&&_}
+use mathlib.Core.Bool.{Bool, _&&_}
 use lib.Dec.{leb}
+use Rattle.rounding.specs.Outcome.{Outcome, refused, given, refuseUnless}
 use Rattle.rounding.specs.Divided.{divided}
 use Rattle.rounding.specs.Ratio.{Ratio, _÷_}
 use Rattle.rounding.specs.declared.Direction.{Direction}
 use Rattle.fuel.specs.declared.FuelLine.{FuelLine}
 use Rattle.fuel.specs.declared.Milligrams.{Milligrams}
 use Rattle.fuel.specs.declared.Milligrams.the-variants.{Refused, Rounded}
+
+-- The empty line: what a place for a fuel line holds where there is none.
+abbrev pub noLine : FuelLine
+noLine = record { quantity = 0; ncv = 0; factor = 0 }
 
 -- What number 2 does not refuse: "Q above 100,000,000, V outside 1 to 150,000, or C above 200,000".
 unfoldable pub withinLimits : FuelLine → Bool
@@ -25,6 +30,11 @@ exactMilligrams l = (l .quantity * l .ncv * l .factor) ÷ 1000
 unfoldable pub roundedMilligrams : Direction → FuelLine → ℕ
 roundedMilligrams dir l = divided dir (exactMilligrams l .plus) (exactMilligrams l .over)
 
--- What the line gives, or that it is refused.
-unfoldable pub lineMilligrams : Direction → FuelLine → Milligrams
-lineMilligrams dir l = cond (withinLimits l) (Rounded (roundedMilligrams dir l)) Refused
+-- What the line gives, or refusal 2.
+unfoldable pub lineMilligrams : Direction → FuelLine → Outcome ℕ
+lineMilligrams dir l = refuseUnless 2 (withinLimits l) (given (roundedMilligrams dir l))
+
+-- What the code's answer means: the paper's number and value of each case.
+abbrev pub milligramsMeaning : Milligrams → Outcome ℕ
+milligramsMeaning Refused = refused 2
+milligramsMeaning (Rounded w) = given w

@@ -1,7 +1,7 @@
 // Fuel lines of a captive plant: their limits and their milligrams of CO2 (document 01, "Losses and
 // factors", captive, and "Plant entry", number 2).
 ghost use mathlib.Core.Path.{_≡_};
-ghost use Rattle.fuel.specs.Fuel.{withinLimits, lineMilligrams};
+ghost use Rattle.fuel.specs.Fuel.{noLine, withinLimits, lineMilligrams, milligramsMeaning};
 use rounding::Direction;
 
 // A fuel line as entered.
@@ -14,7 +14,7 @@ pub struct FuelLine {
     pub factor: u32,
 }
 
-// A line's milligrams of CO2, or that it is out of its limits.
+// A line's milligrams of CO2, or that it is out of its limits (number 2).
 pub enum Milligrams {
     Refused,
     Rounded(u64),
@@ -26,6 +26,17 @@ impl FuelLine {
     pub const NCV_LIMIT: u32 = 150_000;
 
     pub const FACTOR_LIMIT: u32 = 200_000;
+
+    // The empty line: what a place for a line holds where there is none.
+    pub fn empty() -> FuelLine
+        ensures { λ r. ⌜ r ≡ noLine ⌝ }
+    {
+        FuelLine {
+            quantity: 0,
+            ncv: 0,
+            factor: 0,
+        }
+    }
 
     // Whether the line is within its limits; number 2 refuses a plant with a line that is not.
     pub fn is_within_limits(self) -> bool
@@ -46,7 +57,7 @@ impl FuelLine {
     // The milligrams of CO2 of the line, rounded. Out of its limits nothing is computed, so that no
     // product wraps at any value of the fields.
     pub fn milligrams(self, direction: Direction) -> Milligrams
-        ensures { λ r. ⌜ r ≡ lineMilligrams direction self ⌝ }
+        ensures { λ r. ⌜ milligramsMeaning r ≡ lineMilligrams direction self ⌝ }
     {
         if self.is_within_limits() {
             let q = self.quantity as u64;

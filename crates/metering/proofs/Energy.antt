@@ -12,24 +12,24 @@ use lib.Seq.{drop-cons}
 use borrow.Author.Tests.{leb-true}
 use Rattle.rounding.specs.declared.Direction.{Direction}
 use Rattle.rounding.specs.declared.Direction.the-variants.{Up, Down}
+use Rattle.rounding.specs.Outcome.{given}
 use Rattle.rounding.specs.Divided.{divided, opposite, sum}
 use Rattle.rounding.specs.Ratio.{_÷_, Conservative}
 use Rattle.rounding.proofs.Divided.{RoundsSum, rounds-sum}
 use Rattle.rounding.proofs.Tests.{and-both, ltb-kept}
 use Rattle.metering.specs.Reading.{unit, limit, exact, accepted, wattHours}
-use Rattle.metering.specs.Energy.{firstOf, lastOf, addingOf, takingOf, adding, taking, isAccepted, runsBack, every, some}
+use Rattle.metering.specs.Energy.{firstOf, lastOf, addingOf, takingOf, adding, taking, isAccepted, runsBack, allMeters, anyMeter}
 use Rattle.metering.specs.Energy.{exactEnergy, roundedAdding, roundedTaking, judgedReadings, judgedMeters, settledEnergy}
 use Rattle.metering.specs.Steps.{meterRead, metersRead}
 use Rattle.metering.specs.declared.Sign.{Sign}
 use Rattle.metering.specs.declared.Sign.the-variants.{Plus, Minus}
 use Rattle.metering.specs.declared.Meter.{Meter}
-use Rattle.metering.specs.declared.WattHours.the-variants.{Rounded}
 use Rattle.metering.specs.declared.MeterRead.{MeterRead}
 use Rattle.metering.specs.declared.MeterRead.the-variants.{Refused, Moved}
 use Rattle.metering.specs.declared.MetersJudged.{MetersJudged}
 use Rattle.metering.specs.declared.MetersJudged.the-variants as metersJudged
 use Rattle.metering.specs.declared.EnergyJudged.the-variants as energyJudged
-use Rattle.metering.proofs.Readings.{unit-above-zero, was-given, rounded-within}
+use Rattle.metering.proofs.Readings.{unit-above-zero, was-rounded, rounded-within}
 
 and-swap : (a b : Bool) → (a && b) ≡ (b && a)
 and-swap true true = refl
@@ -60,15 +60,15 @@ module _ (dir : Direction) (m : Meter) where
   meter-refused h = sym (ap (λ (t : Bool). cond t moved Refused) (accepted-both m ∙ h))
 
   -- What the two rounded readings say of the meter.
-  module _ (a t : ℕ) (p : wattHours dir (adding m) ≡ Rounded a) (q : wattHours (opposite dir) (taking m) ≡ Rounded t) where
+  module _ (a t : ℕ) (p : wattHours dir (adding m) ≡ given a) (q : wattHours (opposite dir) (taking m) ≡ given t) where
     pub both-given : isAccepted m ≡ true
-    both-given = accepted-both m ∙ rw (was-given dir (adding m) a p .0, was-given (opposite dir) (taking m) t q .0)
+    both-given = accepted-both m ∙ rw (was-rounded dir (adding m) a p .0, was-rounded (opposite dir) (taking m) t q .0)
 
     pub meter-moved : Moved a t (runsBack m) ≡ meterRead dir m
     meter-moved =
         sym (ap (λ (s : Bool). cond s moved Refused) both-given
-        ∙ ap (λ (n : ℕ). Moved n (divided (opposite dir) (exact (taking m)) unit) (runsBack m)) (was-given dir (adding m) a p .1)
-        ∙ ap (λ (n : ℕ). Moved a n (runsBack m)) (was-given (opposite dir) (taking m) t q .1))
+        ∙ ap (λ (n : ℕ). Moved n (divided (opposite dir) (exact (taking m)) unit) (runsBack m)) (was-rounded dir (adding m) a p .1)
+        ∙ ap (λ (n : ℕ). Moved a n (runsBack m)) (was-rounded (opposite dir) (taking m) t q .1))
 
   -- Each of the two is within the limit.
   pub meter-within : (a t : ℕ) (b : Bool) → meterRead dir m ≡ Moved a t b → (a ≤ limit) × (t ≤ limit)
@@ -93,10 +93,10 @@ joined (Moved a t b) Refused = Refused
 joined Refused r = Refused
 
 meters-cons : (dir : Direction) (m : Meter) (ms : List Meter) → metersRead dir (m ∷ ms) ≡ joined (meterRead dir m) (metersRead dir ms)
-unfolding every some roundedAdding roundedTaking sum
+unfolding allMeters anyMeter roundedAdding roundedTaking sum
 meters-cons dir m ms =
-    go (isAccepted m) (every isAccepted ms) (divided dir (exact (adding m)) unit) (roundedAdding dir ms)
-    (divided (opposite dir) (exact (taking m)) unit) (roundedTaking dir ms) (runsBack m) (some runsBack ms)
+    go (isAccepted m) (allMeters isAccepted ms) (divided dir (exact (adding m)) unit) (roundedAdding dir ms)
+    (divided (opposite dir) (exact (taking m)) unit) (roundedTaking dir ms) (runsBack m) (anyMeter runsBack ms)
   where
     go : (s u : Bool) (x X y Y : ℕ) (z Z : Bool)
         → cond (s && u) (Moved (x + X) (y + Y) (z || Z)) Refused ≡ joined (cond s (Moved x y z) Refused) (cond u (Moved X Y Z) Refused)
@@ -105,7 +105,7 @@ meters-cons dir m ms =
     go false u x X y Y z Z = refl
 
 pub meters-none : (dir : Direction) → metersRead dir [] ≡ Moved 0 0 false
-unfolding every some roundedAdding roundedTaking sum
+unfolding allMeters anyMeter roundedAdding roundedTaking sum
 meters-none dir = refl
 
 or-assoc : (a b c : Bool) → (a || (b || c)) ≡ ((a || b) || c)
@@ -183,7 +183,7 @@ judgedOf (Moved a t false) = metersJudged.Read a t
 
 pub judged-by-reads : (dir : Direction) (ms : List Meter) → judgedOf (metersRead dir ms) ≡ judgedReadings dir ms
 unfolding judgedReadings
-judged-by-reads dir ms = go (every isAccepted ms) (some runsBack ms) (roundedAdding dir ms) (roundedTaking dir ms)
+judged-by-reads dir ms = go (allMeters isAccepted ms) (anyMeter runsBack ms) (roundedAdding dir ms) (roundedTaking dir ms)
   where
     go : (s u : Bool) (x y : ℕ)
         → judgedOf (cond s (Moved x y u) Refused)
@@ -199,7 +199,7 @@ pub was-read : (dir : Direction) (n : ℕ) (ms : List Meter) (a t : ℕ) → jud
     → (leb n 4 ≡ true) × (roundedAdding dir (take n ms) ≡ a) × (roundedTaking dir (take n ms) ≡ t)
 unfolding judgedMeters judgedReadings
 was-read dir n ms a t e =
-    go (leb 1 n) (leb n 4) (every isAccepted (take n ms)) (some runsBack (take n ms))
+    go (leb 1 n) (leb n 4) (allMeters isAccepted (take n ms)) (anyMeter runsBack (take n ms))
     (roundedAdding dir (take n ms)) (roundedTaking dir (take n ms)) e
   where
     go : (p q s u : Bool) (x y : ℕ)

@@ -13,7 +13,7 @@ use Rattle.rounding.specs.declared.Direction.the-variants.{Up, Down}
 use Rattle.rounding.specs.Divided.{divided, sum}
 use Rattle.rounding.proofs.Divided.{up-odd, down-is}
 use Rattle.metering.specs.Reading.{unit, exactRegister, isReadableRegister, accepted}
-use Rattle.metering.specs.Energy.{exactEnergy, roundedAdding, roundedTaking, every, some, judgedReadings, judgedMeters, settledEnergy}
+use Rattle.metering.specs.Energy.{exactEnergy, roundedAdding, roundedTaking, allMeters, anyMeter, judgedReadings, judgedMeters, settledEnergy}
 use Rattle.metering.specs.declared.Reading.the-variants.{Single}
 use Rattle.metering.specs.declared.Sign.{Sign}
 use Rattle.metering.specs.declared.Sign.the-variants.{Plus, Minus}
@@ -35,7 +35,7 @@ creeping = record { sign = Minus; interval = Singles record { first = ofBits bin
 pub zero-below-zero : (judgedMeters Up 2 (resting ∷ creeping ∷ []) ≡ metersJudged.Read 2000 2000)
     × (settledEnergy 2000 2000 ≡ Accepted 0)
     × (exactEnergy (resting ∷ creeping ∷ []) .plus < exactEnergy (resting ∷ creeping ∷ []) .minus)
-unfolding judgedMeters judgedReadings every some roundedAdding roundedTaking sum divided exactRegister isReadableRegister ofBits settledEnergy exactEnergy
+unfolding judgedMeters judgedReadings allMeters anyMeter roundedAdding roundedTaking sum divided exactRegister isReadableRegister ofBits settledEnergy exactEnergy
 zero-below-zero = (refl, refl, lit< tt)
 
 -- ---- "a baseline source whose only meter is an unmoved register that is no whole Wh has E = -1 and is refused 6"
@@ -60,7 +60,7 @@ only a b p q h k = simp (h, k, add-zero)
 pub unmoved-refused : (s : Sign) (x : Float) (ms : List Meter) → accepted (Single x) ≡ true → exactRegister x % unit ≢ 0
     → let q = divided Down (exactRegister x) unit in
     (judgedMeters Down 1 (unmoved s x ∷ ms) ≡ metersJudged.Read q (q + 1)) × (settledEnergy q (q + 1) ≡ Refused 6)
-unfolding judgedMeters judgedReadings every some roundedAdding roundedTaking sum
+unfolding judgedMeters judgedReadings allMeters anyMeter roundedAdding roundedTaking sum
 unmoved-refused s x ms h k =
     let q = divided Down (exactRegister x) unit in
     (go s ∙ ap (metersJudged.Read q) (one-more (exactRegister x) k), below-zero q)

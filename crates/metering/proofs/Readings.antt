@@ -1,6 +1,6 @@
 -- A reading's whole watt-hours: when they are given, and that they round the exact value. Assumes nothing.
 use mathlib.Core.Path.{_≡_, refl, sym, ap, _∙_, subst}
-use mathlib.Core.Bool.{Bool, true, false, cond}
+use mathlib.Core.Bool.{Bool, true, false}
 use Prim.Native.Nat.{ℕ, _*_, _≤_, _<_}
 use native.Mathlib.Nat.{mul-le-mul-right, mul-lt-mul-of-pos-right}
 use native.Mathlib.Omega.{arith}
@@ -9,37 +9,34 @@ use lib.Pow.{pow-pos}
 use borrow.Author.Tests.{le-leb, lt-leb, leb-true, leb-false}
 use Rattle.rounding.specs.declared.Direction.{Direction}
 use Rattle.rounding.specs.declared.Direction.the-variants.{Up}
+use Rattle.rounding.specs.Outcome.{refused, given, refuseUnless}
 use Rattle.rounding.specs.Divided.{divided, Rounds}
 use Rattle.rounding.proofs.Divided.{rounds, divided-at-most, divided-up-bounds, divided-whole}
+use Rattle.rounding.proofs.Outcomes.{never-given, given-is, test-held}
 use Rattle.rounding.proofs.Tests.{and-both}
 use Rattle.metering.specs.Reading.{unit, limit, exact, isReadable, accepted, wattHours}
 use Rattle.metering.specs.declared.Reading.{Reading}
 use Rattle.metering.specs.declared.Reading.the-variants.{Whole}
-use Rattle.metering.specs.declared.WattHours.the-variants.{Refused, Rounded}
 
 pub unit-above-zero : 0 < unit
 unit-above-zero = pow-pos 149
 
-pub given : (dir : Direction) (r : Reading) (q : ℕ) → accepted r ≡ true → divided dir (exact r) unit ≡ q → Rounded q ≡ wattHours dir r
-given dir r q a e = sym (ap (λ (t : Bool). cond t (Rounded (divided dir (exact r) unit)) Refused) a ∙ ap Rounded e)
+pub rounded : (dir : Direction) (r : Reading) (q : ℕ) → accepted r ≡ true → divided dir (exact r) unit ≡ q → given q ≡ wattHours dir r
+rounded dir r q a e = sym (ap (λ (t : Bool). refuseUnless 3 t (given (divided dir (exact r) unit))) a ∙ ap given e)
 
-pub declined : (dir : Direction) (r : Reading) → accepted r ≡ false → Refused ≡ wattHours dir r
-declined dir r a = sym (ap (λ (t : Bool). cond t (Rounded (divided dir (exact r) unit)) Refused) a)
+pub declined : (dir : Direction) (r : Reading) → accepted r ≡ false → refused 3 ≡ wattHours dir r
+declined dir r a = sym (ap (λ (t : Bool). refuseUnless 3 t (given (divided dir (exact r) unit))) a)
 
 -- And back.
-pub was-given : (dir : Direction) (r : Reading) (q : ℕ) → wattHours dir r ≡ Rounded q
+pub was-rounded : (dir : Direction) (r : Reading) (q : ℕ) → wattHours dir r ≡ given q
     → (accepted r ≡ true) × (divided dir (exact r) unit ≡ q)
-was-given dir r q e = go (accepted r) e
-  where
-    go : (t : Bool) → cond t (Rounded (divided dir (exact r) unit)) Refused ≡ Rounded q → (t ≡ true) × (divided dir (exact r) unit ≡ q)
-    go true h = (refl, cc)
-    go false h = (cc, cc)
+was-rounded dir r q e = let p = test-held 3 (accepted r) (given (divided dir (exact r) unit)) e in (p .0, given-is (p .1))
 
-pub was-declined : (dir : Direction) (r : Reading) → wattHours dir r ≡ Refused → accepted r ≡ false
-was-declined dir r e = go (accepted r) e
+pub was-declined : (dir : Direction) (r : Reading) (n : ℕ) → wattHours dir r ≡ refused n → accepted r ≡ false
+was-declined dir r n e = go (accepted r) e
   where
-    go : (t : Bool) → cond t (Rounded (divided dir (exact r) unit)) Refused ≡ Refused → t ≡ false
-    go true h = cc
+    go : (t : Bool) → refuseUnless 3 t (given (divided dir (exact r) unit)) ≡ refused n → t ≡ false
+    go true h = absurd (never-given (sym h))
     go false h = refl
 
 within-limit : (r : Reading) → accepted r ≡ true → exact r ≤ limit * unit
@@ -49,9 +46,9 @@ pub rounded-within : (dir : Direction) (r : Reading) → accepted r ≡ true →
 rounded-within dir r h = divided-at-most dir (exact r) unit limit unit-above-zero (within-limit r h)
 
 -- A reading's watt-hours round its exact value, and are within the limit.
-pub watt-hours-rounds : (dir : Direction) (r : Reading) (q : ℕ) → wattHours dir r ≡ Rounded q → Rounds dir (exact r) unit q × (q ≤ limit)
+pub watt-hours-rounds : (dir : Direction) (r : Reading) (q : ℕ) → wattHours dir r ≡ given q → Rounds dir (exact r) unit q × (q ≤ limit)
 watt-hours-rounds dir r q e =
-    let p = was-given dir r q e in (
+    let p = was-rounded dir r q e in (
       subst (Rounds dir (exact r) unit) (p .1) (rounds dir (exact r) unit unit-above-zero),
       subst (λ (n : ℕ). n ≤ limit) (p .1) (rounded-within dir r (p .0)),
     )
@@ -69,8 +66,8 @@ limit-rounded x = go (leb (divided Up x unit) limit) refl
 
 -- ---- a whole reading
 
-pub whole-within : (dir : Direction) (w : ℕ) → w ≤ limit → Rounded w ≡ wattHours dir (Whole w)
-whole-within dir w h = given dir (Whole w) w (le-leb (w * unit) (limit * unit) (mul-le-mul-right unit h)) (divided-whole dir w unit unit-above-zero)
+pub whole-within : (dir : Direction) (w : ℕ) → w ≤ limit → given w ≡ wattHours dir (Whole w)
+whole-within dir w h = rounded dir (Whole w) w (le-leb (w * unit) (limit * unit) (mul-le-mul-right unit h)) (divided-whole dir w unit unit-above-zero)
 
-pub whole-beyond : (dir : Direction) (w : ℕ) → limit < w → Refused ≡ wattHours dir (Whole w)
+pub whole-beyond : (dir : Direction) (w : ℕ) → limit < w → refused 3 ≡ wattHours dir (Whole w)
 whole-beyond dir w h = declined dir (Whole w) (lt-leb (w * unit) (limit * unit) (mul-lt-mul-of-pos-right h unit-above-zero))

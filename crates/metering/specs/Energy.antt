@@ -70,19 +70,19 @@ isAccepted m = accepted (firstOf (m .interval)) && accepted (lastOf (m .interval
 abbrev pub runsBack : Meter → Bool
 runsBack m = ltb (exact (lastOf (m .interval))) (exact (firstOf (m .interval)))
 
-unfoldable pub every : (Meter → Bool) → List Meter → Bool
-every p [] = true
-every p (m ∷ ms) = p m && every p ms
+unfoldable pub allMeters : (Meter → Bool) → List Meter → Bool
+allMeters p [] = true
+allMeters p (m ∷ ms) = p m && allMeters p ms
 
-unfoldable pub some : (Meter → Bool) → List Meter → Bool
-some p [] = false
-some p (m ∷ ms) = p m || some p ms
+unfoldable pub anyMeter : (Meter → Bool) → List Meter → Bool
+anyMeter p [] = false
+anyMeter p (m ∷ ms) = p m || anyMeter p ms
 
 -- "Each number is tested over all meters before the next."
 unfoldable pub judgedReadings : Direction → List Meter → MetersJudged
 judgedReadings dir ms =
-    cond (not (every isAccepted ms)) (metersJudged.Refused 3)
-    (cond (some runsBack ms) (metersJudged.Refused 4)
+    cond (not (allMeters isAccepted ms)) (metersJudged.Refused 3)
+    (cond (anyMeter runsBack ms) (metersJudged.Refused 4)
     (metersJudged.Read (roundedAdding dir ms) (roundedTaking dir ms)))
 
 -- "2 meters not 1 to 4"; the source's meters are the first `count` ones.
@@ -102,3 +102,7 @@ metersRefusal (metersJudged.Read adds takes) = 0
 abbrev pub energyRefusal : EnergyJudged → ℕ
 energyRefusal (energyJudged.Refused n) = n
 energyRefusal (energyJudged.Accepted E) = 0
+
+-- The empty meter: what a place for a meter holds where there is none.
+abbrev pub noMeter : Meter
+noMeter = record { sign = Plus; interval = Counts 0 0 }

@@ -6,7 +6,7 @@ use Rattle.rounding.specs.Divided.{divided, opposite}
 use Rattle.rounding.specs.declared.Direction.{Direction}
 use Rattle.rounding.specs.declared.Direction.the-variants.{Up, Down}
 use Rattle.metering.specs.Reading.{unit, exact}
-use Rattle.metering.specs.Energy.{adding, taking, isAccepted, runsBack, roundedAdding, roundedTaking, every, some}
+use Rattle.metering.specs.Energy.{adding, taking, isAccepted, runsBack, roundedAdding, roundedTaking, allMeters, anyMeter}
 use Rattle.metering.specs.declared.Bounds.{Bounds}
 use Rattle.metering.specs.declared.Meter.{Meter}
 use Rattle.metering.specs.declared.MeterRead.{MeterRead}
@@ -29,4 +29,4 @@ meterRead dir m =
 
 -- The same of a list of meters.
 abbrev pub metersRead : Direction → List Meter → MeterRead
-metersRead dir ms = cond (every isAccepted ms) (Moved (roundedAdding dir ms) (roundedTaking dir ms) (some runsBack ms)) Refused
+metersRead dir ms = cond (allMeters isAccepted ms) (Moved (roundedAdding dir ms) (roundedTaking dir ms) (anyMeter runsBack ms)) Refused

@@ -6,7 +6,7 @@ ghost use Prim.Native.Nat.{_≤_, _<_};
 ghost use lib.Dec.{ltb};
 ghost use lib.Ieee.{binary32, ofBits};
 ghost use lib.ListN.{take};
-ghost use Rattle.metering.specs.Reading.{exactRegister, accepted, wattHours};
+ghost use Rattle.metering.specs.Reading.{exactRegister, accepted, wattHours, wattHoursMeaning};
 ghost use Rattle.metering.specs.Energy.{
   firstOf,
   lastOf,
@@ -18,6 +18,7 @@ ghost use Rattle.metering.specs.Energy.{
   settledEnergy,
   metersRefusal,
   energyRefusal,
+  noMeter,
 };
 ghost use Rattle.metering.specs.Steps.{magnitude, roundedBothWays, meterRead, metersRead};
 use rounding::Direction;
@@ -147,7 +148,7 @@ fn round_both_ways(field: u32, digits: u32) -> Bounds
 // registers below zero and of no number. The limit is on the exact value, which is above it exactly
 // where the value rounded up is.
 fn register_watt_hours(bits: u32, direction: Direction) -> WattHours
-    ensures { λ r. ⌜ r ≡ wattHours direction (Reading.Single (ofBits binary32 bits)) ⌝ }
+    ensures { λ r. ⌜ wattHoursMeaning r ≡ wattHours direction (Reading.Single (ofBits binary32 bits)) ⌝ }
 {
     if bits > 0x8000_0000 {
         return WattHours::Refused;
@@ -169,7 +170,7 @@ fn register_watt_hours(bits: u32, direction: Direction) -> WattHours
 
 // A reading's whole watt-hours in the direction, or that it is refused.
 pub fn watt_hours(reading: Reading, direction: Direction) -> WattHours
-    ensures { λ r. ⌜ r ≡ wattHours direction reading ⌝ }
+    ensures { λ r. ⌜ wattHoursMeaning r ≡ wattHours direction reading ⌝ }
 {
     match reading {
         Reading::Whole(count) => {
@@ -223,6 +224,16 @@ impl Registers {
 }
 
 impl Meter {
+    // The empty meter: what a place for a meter holds where there is none.
+    pub fn empty() -> Meter
+        ensures { λ r. ⌜ r ≡ noMeter ⌝ }
+    {
+        Meter {
+            sign: Sign::Plus,
+            interval: Interval::Counts(0, 0),
+        }
+    }
+
     // The reading that adds to the source's energy.
     fn adding(self) -> Reading
         ensures { λ r. ⌜ r ≡ adding self ⌝ }

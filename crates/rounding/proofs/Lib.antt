@@ -1,4 +1,5 @@
 pub mod Tests
+pub mod Outcomes
 pub mod Divided
 pub mod Order
 pub mod Ratio

@@ -3,11 +3,11 @@ use borrow.Author.Needs.{needs}
 use mathlib.Core.Path.{_≡_, sym, ap, _∙_}
 use mathlib.Core.Bool.{Bool, false, _&&_}
 use Rattle.rounding.specs.declared.Direction.{Direction}
+use Rattle.rounding.specs.Outcome.{given}
 use Rattle.rounding.specs.Divided.{opposite}
 use Rattle.rounding.proofs.Tests.{second-fails}
-use Rattle.metering.specs.Reading.{accepted, wattHours}
+use Rattle.metering.specs.Reading.{accepted, wattHours, wattHoursMeaning}
 use Rattle.metering.specs.Energy.{adding, taking}
-use Rattle.metering.specs.declared.WattHours.the-variants.{Rounded}
 use Rattle.metering.specs.declared.MeterRead.the-variants.{Moved}
 use Rattle.metering.proofs.Readings.{was-declined}
 use Rattle.metering.proofs.Energy.{meter-refused, both-given, meter-moved}
@@ -18,14 +18,15 @@ first-refused : (a b : Bool) → a ≡ false → (a && b) ≡ false
 first-refused a b h = simp h
 
 -- What the calls gave, of the meter's own readings.
-adds-is : (c : tie.After-watt-hours) → let a = c .before .before .args in wattHours (a .direction) (adding (a .meter)) ≡ c .watt-hours .result
+adds-is : (c : tie.After-watt-hours)
+    → let a = c .before .before .args in wattHours (a .direction) (adding (a .meter)) ≡ wattHoursMeaning (c .watt-hours .result)
 adds-is c = ap (wattHours (c .before .before .args .direction)) (sym (c .before .adding .ensures)) ∙ sym (c .watt-hours .ensures)
 
 abbrev earlier : tie.After-watt-hours2 → tie.After-watt-hours
 earlier c = c .before .before .before .before .before .before
 
 takes-is : (c : tie.After-watt-hours2)
-    → let a = earlier c .before .before .args in wattHours (opposite (a .direction)) (taking (a .meter)) ≡ c .watt-hours2 .result
+    → let a = earlier c .before .before .args in wattHours (opposite (a .direction)) (taking (a .meter)) ≡ wattHoursMeaning (c .watt-hours2 .result)
 takes-is c =
     ap (λ (d : Direction). wattHours d (taking (earlier c .before .before .args .meter))) (sym (c .before .reversed .ensures))
     ∙ ap (wattHours (c .before .reversed .result)) (sym (c .before .before .taking .ensures))
@@ -33,8 +34,8 @@ takes-is c =
 
 adds-given : (c : tie.After-watt-hours2)
     → let a = earlier c .before .before .args in
-    wattHours (a .direction) (adding (a .meter)) ≡ Rounded (c .before .before .before .before .adds .given .0 .0)
-adds-given c = adds-is (earlier c) ∙ c .before .before .before .before .adds .given .1
+    wattHours (a .direction) (adding (a .meter)) ≡ given (c .before .before .before .before .adds .given .0 .0)
+adds-given c = adds-is (earlier c) ∙ ap wattHoursMeaning (c .before .before .before .before .adds .given .1)
 
 adding-requires : tie.Need-adding-requires
 adding-requires c κs = search needs
@@ -53,7 +54,7 @@ returns c =
     let w = c .before .before in
     let a = w .before .before .args in
     meter-refused (a .direction) (a .meter)
-    (first-refused _ _ (was-declined (a .direction) (adding (a .meter)) (adds-is w ∙ c .enum-told .given .1)))
+    (first-refused _ _ (was-declined (a .direction) (adding (a .meter)) _ (adds-is w ∙ ap wattHoursMeaning (c .enum-told .given .1))))
 
 taking-requires : tie.Need-taking-requires
 taking-requires c κs = search needs
@@ -76,13 +77,13 @@ returns-2 c =
     let a = earlier w .before .before .args in
     meter-refused (a .direction) (a .meter)
     (second-fails (accepted (adding (a .meter))) (accepted (taking (a .meter)))
-    (was-declined (opposite (a .direction)) (taking (a .meter)) (takes-is w ∙ c .enum-told2 .given .1)))
+    (was-declined (opposite (a .direction)) (taking (a .meter)) _ (takes-is w ∙ ap wattHoursMeaning (c .enum-told2 .given .1))))
 
 runs-back-requires : tie.Need-runs-back-requires
 runs-back-requires c κs =
     let w = c .before .before .before in
     let a = earlier w .before .before .args in
-    both-given (a .direction) (a .meter) _ _ (adds-given w) (takes-is w ∙ c .before .takes .given .1)
+    both-given (a .direction) (a .meter) _ _ (adds-given w) (takes-is w ∙ ap wattHoursMeaning (c .before .takes .given .1))
 
 returns-3 : tie.Need-returns-3
 returns-3 c =
@@ -90,7 +91,7 @@ returns-3 c =
     let a = earlier w .before .before .args in
     let t = c .before .before .takes .given in
     ap (Moved (w .before .before .before .before .adds .given .0 .0) (t .0 .0)) (c .runs-back .ensures)
-    ∙ meter-moved (a .direction) (a .meter) _ _ (adds-given w) (takes-is w ∙ t .1)
+    ∙ meter-moved (a .direction) (a .meter) _ _ (adds-given w) (takes-is w ∙ ap wattHoursMeaning (t .1))
 
 pub read-meter-spec : {M : Type 1} → statement M
 read-meter-spec =

@@ -10,14 +10,14 @@ use lib.Ieee.{binary32, ofBits}
 use borrow.Author.Tests.{le-leb, lt-leb}
 use Rattle.rounding.specs.declared.Direction.{Direction}
 use Rattle.rounding.specs.declared.Direction.the-variants.{Up, Down}
+use Rattle.rounding.specs.Outcome.{refused, given}
 use Rattle.rounding.specs.Divided.{divided}
 use Rattle.metering.specs.Reading.{unit, limit, accepted, wattHours}
 use Rattle.metering.specs.Steps.{magnitude}
 use Rattle.metering.specs.declared.Bounds.{Bounds}
 use Rattle.metering.specs.declared.Reading.the-variants.{Single}
-use Rattle.metering.specs.declared.WattHours.the-variants.{Refused, Rounded}
 use Rattle.metering.proofs.Patterns.{fieldOf, digitsOf, exact-at, below-at, no-number-refused, accepted-at, beyond-at}
-use Rattle.metering.proofs.Readings.{given, declined, limit-rounded}
+use Rattle.metering.proofs.Readings.{rounded, declined, limit-rounded}
 use Rattle.metering.proofs.register_watt_hours.Statement.{statement}
 use Rattle.metering.proofs.register_watt_hours.Tie as tie
 
@@ -33,13 +33,13 @@ module _ (b : ℕ) (low : b ≤ 2147483648) (field : fieldOf b ≤ 153) where
   tested : (t : Bool) → leb (divided Up (at b) unit) limit ≡ t → accepted (Single (ofBits binary32 b)) ≡ t
   tested t e = accepted-at b low finite ∙ limit-rounded (at b) ∙ e
 
-  too-large : (dir : Direction) → limit < divided Up (at b) unit → Refused ≡ wattHours dir (Single (ofBits binary32 b))
+  too-large : (dir : Direction) → limit < divided Up (at b) unit → refused 3 ≡ wattHours dir (Single (ofBits binary32 b))
   too-large dir h = declined dir (Single (ofBits binary32 b)) (tested false (lt-leb _ _ h))
 
-  rounded : (dir : Direction) → divided Up (at b) unit ≤ limit
-      → Rounded (divided dir (at b) unit) ≡ wattHours dir (Single (ofBits binary32 b))
-  rounded dir h =
-      given dir (Single (ofBits binary32 b)) (divided dir (at b) unit) (tested true (le-leb _ _ h))
+  not-too-large : (dir : Direction) → divided Up (at b) unit ≤ limit
+      → given (divided dir (at b) unit) ≡ wattHours dir (Single (ofBits binary32 b))
+  not-too-large dir h =
+      rounded dir (Single (ofBits binary32 b)) (divided dir (at b) unit) (tested true (le-leb _ _ h))
       (ap (λ (n : ℕ). divided dir n unit) (exact-at b finite))
 
 returns : tie.Need-returns
@@ -72,22 +72,22 @@ enum-told-2 c = search needs
 -- What is given within the limit, in the direction that an arm knows.
 within : (c : tie.After-round-both-ways) (dir : Direction) → c .round-both-ways .result .up ≤ limit → c .before .before .before .args .direction ≡ dir
     → let a = c .before .before .before .args in
-    Rounded (divided dir (at (a .bits)) unit) ≡ wattHours (a .direction) (Single (ofBits binary32 (a .bits)))
+    given (divided dir (at (a .bits)) unit) ≡ wattHours (a .direction) (Single (ofBits binary32 (a .bits)))
 within c dir h e =
     let a = c .before .before .before .args in
-    rounded (a .bits) (c .before .before .if1 .left) (c .before .if2 .left) dir
+    not-too-large (a .bits) (c .before .before .if1 .left) (c .before .if2 .left) dir
     (subst (λ (x : Bounds). x .up ≤ limit) (c .round-both-ways .ensures) h)
     ∙ ap (λ (d : Direction). wattHours d (Single (ofBits binary32 (a .bits)))) (sym e)
 
 returns-4 : tie.Need-returns-4
 returns-4 c =
     let r = c .before .before .before .before in
-    ap (λ (x : Bounds). Rounded (x .up)) (r .round-both-ways .ensures) ∙ within r Up (c .before .before .if3 .left) (c .enum-told .given .1)
+    ap (λ (x : Bounds). given (x .up)) (r .round-both-ways .ensures) ∙ within r Up (c .before .before .if3 .left) (c .enum-told .given .1)
 
 returns-5 : tie.Need-returns-5
 returns-5 c =
     let r = c .before .before .before .before in
-    ap (λ (x : Bounds). Rounded (x .down)) (r .round-both-ways .ensures) ∙ within r Down (c .before .before .if3 .left) (c .enum-told2 .given .1)
+    ap (λ (x : Bounds). given (x .down)) (r .round-both-ways .ensures) ∙ within r Down (c .before .before .if3 .left) (c .enum-told2 .given .1)
 
 pub register-watt-hours-spec : {M : Type 1} → statement M
 register-watt-hours-spec =

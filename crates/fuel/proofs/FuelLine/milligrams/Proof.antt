@@ -3,8 +3,8 @@ use borrow.Author.Needs.{needs}
 use mathlib.Core.Path.{sym, ap, _∙_}
 use native.Mathlib.Omega.{arith}
 use native.Mathlib.Nat.{mul-le-mul-right}
+use Rattle.rounding.specs.Outcome.{given}
 use Rattle.fuel.specs.Fuel.{exactMilligrams, roundedMilligrams, lineMilligrams}
-use Rattle.fuel.specs.declared.Milligrams.the-variants.{Rounded}
 use Rattle.fuel.proofs.Fuel.{Limits, limits, product-bound}
 use Rattle.fuel.proofs.FuelLine.milligrams.Statement.{statement}
 use Rattle.fuel.proofs.FuelLine.milligrams.Tie as tie
@@ -39,7 +39,7 @@ returns : tie.Need-returns
 unfolding lineMilligrams roundedMilligrams exactMilligrams
 returns c =
     rw (sym (c .before .before .before .before .before .is-within-limits .ensures) ∙ c .before .before .before .before .if1 .taken)
-    (ap Rounded (c .divide .ensures))
+    (ap given (c .divide .ensures))
 
 returns-2 : tie.Need-returns-2
 unfolding lineMilligrams
