@@ -16,14 +16,13 @@ use Rattle.rounding.proofs.Tests.{and-both}
 use Rattle.rounding.proofs.Divided.{divided-at-most}
 use Rattle.rounding.proofs.Integers.{Differ}
 use Rattle.metering.specs.Reading.{limit}
-use Rattle.metering.specs.Energy as metered
-use Rattle.metering.specs.Energy.{every, isAccepted, runsBack, judgedReadings, judgedMeters, settledEnergy, metersRefusal, energyRefusal}
+use Rattle.metering.specs.Energy.{allMeters, anyMeter, isAccepted, runsBack, judgedReadings, judgedMeters, settledEnergy, metersRefusal, energyRefusal}
 use Rattle.metering.specs.declared.Meter.{Meter}
 use Rattle.metering.specs.declared.MetersJudged.{MetersJudged}
 use Rattle.metering.specs.declared.MetersJudged.the-variants as metersJudged
 use Rattle.metering.specs.declared.EnergyJudged.{EnergyJudged}
 use Rattle.metering.specs.declared.EnergyJudged.the-variants as energyJudged
-use Rattle.emissions.specs.Outcome.{Outcome, refused, given, refuseUnless, andThen}
+use Rattle.rounding.specs.Outcome.{Outcome, refused, given, refuseUnless, andThen}
 use Rattle.emissions.specs.Factor.{factorLimit, direction, isEntered, lowDefault, Site, gridDefault, captiveJudged, atSite, chosen}
 use Rattle.emissions.specs.Loss.{isProject, isBaseline, lossOf}
 use Rattle.emissions.specs.Figure.{Figure}
@@ -37,7 +36,7 @@ use Rattle.emissions.specs.declared.Loss.the-variants.{Nothing, Measured, Defau
 use Rattle.emissions.specs.declared.Consumption.{Consumption}
 use Rattle.ledger.specs.Judging.{gridJudged, onRead, onEnergy, kept, sourceJudged, isThere, dropJudged}
 use Rattle.report.specs.Records.{linesOf, allWithinLimits, plantJudged, siteFits, lossFits, lossMatches}
-use Rattle.report.specs.Report.{Books, Numbered, listed, standing, sourcesOf, sourceFigure, Figured, Figures, declined, figured, withFigure, joined, figuresFrom, ofSide, SideReport, sideFits, sideReport, reduction, Report, reportFrom, allFit, Reply, ok, refusedWith, refusedAt, reported, damaged, replyFrom, reportOf, checkedReportOf, acknowledged, intact}
+use Rattle.report.specs.Report.{Books, Numbered, listed, standing, sourcesOf, plantsOf, siteOf, sourceFigure, Figured, Figures, declined, figured, withFigure, joined, figuresFrom, ofSide, SideReport, sideFits, sideReport, reduction, Report, reportFrom, allFit, Reply, ok, refusedWith, refusedAt, reported, damaged, replyFrom, reportOf, checkedReportOf, acknowledged, intact}
 use Rattle.ledger.specs.Standing.{Call, enterGrid, enterPlant, enterSource, dropPlant, dropSource, report, answer}
 use Rattle.ledger.specs.Operations.{recorded, reply}
 use Rattle.report.specs.declared.records.Plant.{Plant}
@@ -94,7 +93,7 @@ drop-low last place n =
 
 meters-low : (dir : Direction) (c : ℕ) (ms : List Meter) → metersRefusal (judgedMeters dir c ms) < 100
 unfolding judgedMeters judgedReadings
-meters-low dir c ms = go (leb 1 c && leb c 4) (not (every isAccepted (take c ms))) (metered.some runsBack (take c ms)) _ _
+meters-low dir c ms = go (leb 1 c && leb c 4) (not (allMeters isAccepted (take c ms))) (anyMeter runsBack (take c ms)) _ _
   where
     go : (a b d : Bool) (x y : ℕ)
         → metersRefusal (cond a (cond b (metersJudged.Refused 3) (cond d (metersJudged.Refused 4) (metersJudged.Read x y))) (metersJudged.Refused 2)) < 100
@@ -144,15 +143,16 @@ captive-low dir s =
     (unless-low 10 (leb (divided dir (s .milligrams dir) (s .generation)) factorLimit) _ (omega arith)
     (given-low (divided dir (s .milligrams dir) (s .generation))))
 
-chosen-low : (dir : Direction) (grid : Grid) (site : ℕ → Site) (c : Consumption) (s : Supply) → Low (chosen dir grid site c s)
+chosen-low : (dir : Direction) (grid : Grid) (captiveAt : ℕ → Outcome ℕ) (c : Consumption) → ((S : ℕ) → Low (captiveAt S)) → (s : Supply)
+    → Low (chosen dir grid captiveAt c s)
 unfolding chosen
-chosen-low dir grid site c Combined = unless-low 8 (isEntered grid) _ (omega arith) (given-low _)
-chosen-low dir grid site c GridDefault =
+chosen-low dir grid captiveAt c h Combined = unless-low 8 (isEntered grid) _ (omega arith) (given-low _)
+chosen-low dir grid captiveAt c h GridDefault =
     unless-low 8 (isEntered grid) _ (omega arith) (then-low (gridDefault grid c) _ (default-low grid c) (λ F. given-low _))
-chosen-low dir grid site c (Captive S) = then-low (atSite dir (site S)) _ (captive-low dir (site S)) (λ F. given-low _)
-chosen-low dir grid site c CaptiveDefault = given-low _
-chosen-low dir grid site c (Either S) =
-    unless-low 8 (isEntered grid) _ (omega arith) (then-low (atSite dir (site S)) _ (captive-low dir (site S)) (λ F. given-low _))
+chosen-low dir grid captiveAt c h (Captive S) = then-low (captiveAt S) _ (h S) (λ F. given-low _)
+chosen-low dir grid captiveAt c h CaptiveDefault = given-low _
+chosen-low dir grid captiveAt c h (Either S) =
+    unless-low 8 (isEntered grid) _ (omega arith) (then-low (captiveAt S) _ (h S) (λ F. given-low _))
 
 loss-low : (dir : Direction) (c : Consumption) (l : Loss) → Low (lossOf dir c l)
 unfolding lossOf
@@ -164,7 +164,7 @@ loss-low dir c Default3 = unless-low 12 (isBaseline dir || ltb (c .project) (c .
 figure-low : (b : Books) (s : Source) → Low (sourceFigure b s)
 unfolding sourceFigure
 figure-low b s =
-    then-low _ _ (chosen-low (direction (s .side)) (b .grid) _ _ (s .supply)) (λ c.
+    then-low _ _ (chosen-low (direction (s .side)) (b .grid) _ _ (λ S. captive-low (direction (s .side)) (siteOf (plantsOf b) S)) (s .supply)) (λ x.
     then-low _ _ (loss-low (direction (s .side)) _ (s .loss)) (λ T. given-low _))
 
 -- A refusal at a source, both numbers below 100, or at most so many figures.

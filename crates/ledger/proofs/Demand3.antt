@@ -12,7 +12,7 @@ use lib.Seq.{getD-set-same, getD-set-other}
 use borrow.Author.Tests.{eqb-true, eqb-false, le-leb}
 use Rattle.rounding.specs.Calls.{afterCalls, answers}
 use Rattle.rounding.proofs.Calls.{calls-held, calls-agree, held-at}
-use Rattle.emissions.specs.Outcome.{Outcome, refused, given}
+use Rattle.rounding.specs.Outcome.{Outcome, refused, given}
 use Rattle.emissions.specs.Factor.{factorLimit}
 use Rattle.emissions.specs.declared.GridEntry.{GridEntry}
 use Rattle.emissions.specs.declared.Grid.{Grid}

@@ -1,6 +1,6 @@
 -- What an accepted entry gives: the entry itself, within its limits, and a source's energy near the exact one. Assumes nothing.
 use Prim.Native.Nat.{ℕ, _≤_}
-use mathlib.Core.Path.{_≡_, refl, sym}
+use mathlib.Core.Path.{_≡_, refl, sym, _∙_}
 use mathlib.Core.Bool.{true, _&&_}
 use mathlib.Core.Option.{Option, some}
 use native.Mathlib.Omega.{arith}
@@ -16,15 +16,14 @@ use Rattle.metering.specs.declared.MetersJudged.the-variants as metersJudged
 use Rattle.metering.specs.declared.EnergyJudged.{EnergyJudged}
 use Rattle.metering.specs.declared.EnergyJudged.the-variants as energyJudged
 use Rattle.metering.proofs.Energy.{was-read, was-settled, taken-length, energy-limit, energy-conservative}
-use Rattle.emissions.specs.Outcome.{Outcome, given, refuseUnless}
+use Rattle.rounding.specs.Outcome.{Outcome, given, refuseUnless}
 use Rattle.emissions.specs.Factor.{factorLimit, direction}
 use Rattle.emissions.specs.declared.GridEntry.{GridEntry}
-use Rattle.emissions.specs.declared.Loss.{Loss}
-use Rattle.emissions.specs.declared.Loss.the-variants.{Nothing, Measured, Default20, Default3}
-use Rattle.emissions.proofs.Outcomes.{never-given, given-is, test-held}
+use Rattle.rounding.proofs.Outcomes.{never-given, given-is, test-held}
 use Rattle.emissions.proofs.Losses.{LossSound}
 use Rattle.ledger.specs.Judging.{gridJudged, isThere, dropJudged, metersOf, onRead, onEnergy, kept, sourceJudged}
 use Rattle.report.specs.Records.{linesOf, allWithinLimits, plantJudged, siteFits, lossFits, lossMatches, isGiven, sourceIntact}
+use Rattle.report.proofs.Walks.{loss-sound}
 use Rattle.ledger.specs.Standing.{energyOf}
 use Rattle.report.specs.declared.records.Plant.{Plant}
 use Rattle.ledger.specs.declared.SourceEntry.{SourceEntry}
@@ -43,6 +42,7 @@ grid-facts g a e =
 
 -- What is known of a plant that was entered under the number n.
 pub record PlantFacts (n : ℕ) (p : Plant) : Type 0 where
+  pub judged : plantJudged n p ≡ given p
   pub number : n ≤ 7
   pub lines : length (linesOf p) ≤ 4
   pub intact : isGiven (plantJudged 0 p) ≡ true
@@ -57,6 +57,7 @@ plant-facts n p a e =
     let u = and-both (leb (p .count) 4) _ (t .0) in (
       sym (given-is (r .1)),
       record {
+        judged = e ∙ sym (r .1);
         number = leb-true n 7 (s .0);
         lines = taken-length (p .count) 4 (p .lines) (leb-true (p .count) 4 (u .0));
         intact = simp (s .1, r .0);
@@ -67,18 +68,12 @@ plant-facts n p a e =
 
 -- What is known of a source that was entered under the number n.
 pub record SourceFacts (n : ℕ) (e : SourceEntry) : Type 0 where
+  pub judged : sourceJudged n e ≡ given (kept e (energyOf e))
   pub number : n ≤ 31
   pub near : Conservative (direction (e .side)) (energyOf e) (exactEnergy (metersOf e)) (8 ÷ 1)
   pub limit : energyOf e ≤ limit
   pub loss : LossSound (e .loss)
   pub intact : sourceIntact (some (kept e (energyOf e))) ≡ true
-
--- A loss that number 2 does not refuse.
-loss-sound : (l : Loss) → lossFits l ≡ true → LossSound l
-loss-sound Nothing h = tt
-loss-sound (Measured T) h = leb-true T 5000 h
-loss-sound Default20 h = tt
-loss-sound Default3 h = tt
 
 -- Where the meters' sums are read and the energy E is settled from them, E is that of the entry.
 energy-is : (e : SourceEntry) (x y E : ℕ) → judgedMeters (direction (e .side)) (e .count) (e .meters) ≡ metersJudged.Read x y
@@ -113,6 +108,7 @@ source-facts n e a h =
     let l : energyOf e ≤ limit = rw z (energy-limit x y E settled) in (
       rw z (sym (given-is t)),
       record {
+        judged = h ∙ rw z (sym t);
         number = leb-true n 31 (i .0);
         near = rw z (energy-conservative dir (e .count) (e .meters) x y E read settled);
         limit = l;

@@ -13,15 +13,15 @@ use Rattle.rounding.specs.Divided.{divided, sum}
 use Rattle.rounding.specs.Ratio.{Ratio, _÷_, whole, integer, _≤ᵣ_, _+ᵣ_, _per_, sumᵣ}
 use Rattle.rounding.specs.Calls.{afterCalls, answers}
 use Rattle.metering.specs.Reading.{exactRegister, isReadableRegister}
-use Rattle.metering.specs.Energy.{exactEnergy, roundedAdding, roundedTaking, every, some, judgedReadings, judgedMeters, settledEnergy}
+use Rattle.metering.specs.Energy.{exactEnergy, roundedAdding, roundedTaking, allMeters, anyMeter, judgedReadings, judgedMeters, settledEnergy}
 use Rattle.metering.specs.declared.Sign.{Sign}
 use Rattle.metering.specs.declared.Sign.the-variants.{Plus, Minus}
 use Rattle.metering.specs.declared.Interval.the-variants.{Counts, Singles}
 use Rattle.metering.specs.declared.Meter.{Meter}
 use Rattle.fuel.specs.Fuel.{withinLimits, exactMilligrams, roundedMilligrams}
 use Rattle.fuel.specs.declared.FuelLine.{FuelLine}
-use Rattle.emissions.specs.Outcome.{Outcome, refused, given}
-use Rattle.emissions.specs.Factor.{combined, captive, margin, exactMargin, gridDefault, captiveJudged, lowDefault, captiveFactor, exactCaptive, factorOf, exactFactorOf, chosen}
+use Rattle.rounding.specs.Outcome.{Outcome, refused, given}
+use Rattle.emissions.specs.Factor.{combined, captive, margin, exactMargin, gridDefault, captiveJudged, lowDefault, exactCaptive, exactFactorOf, chosen}
 use Rattle.emissions.specs.Loss.{lossOf}
 use Rattle.emissions.specs.Figure.{energyWithLosses, gramsOf, exactGrams, figureOf}
 use Rattle.emissions.specs.declared.GridKind.the-variants.{Thermal}
@@ -87,7 +87,7 @@ zeros = totals 0 0 0
 
 -- The answers to a list of calls from a new ledger. `unfolding run` opens what they compute by.
 unfoldable pub run : List Call → List Reply
-unfolding answers step reply newLedger noPlant noSource answer checkedReportOf intact allIntact gridJudged linesOf allWithinLimits plantJudged metersOf sourceJudged dropJudged withinLimits exactMilligrams roundedMilligrams judgedMeters judgedReadings every some roundedAdding roundedTaking settledEnergy sum divided exactRegister isReadableRegister ofBits standing those consumption plantMilligrams plantsAt siteOf sourceFigure figuresFrom ofSide sideReport reduction reportFrom reportOf margin gridDefault captiveJudged lowDefault captiveFactor factorOf chosen lossOf energyWithLosses gramsOf figureOf
+unfolding answers step reply newLedger noPlant noSource answer checkedReportOf intact allIntact gridJudged linesOf allWithinLimits plantJudged metersOf sourceJudged dropJudged withinLimits exactMilligrams roundedMilligrams judgedMeters judgedReadings allMeters anyMeter roundedAdding roundedTaking settledEnergy sum divided exactRegister isReadableRegister ofBits standing those consumption plantMilligrams plantsAt siteOf sourceFigure figuresFrom ofSide sideReport reduction reportFrom reportOf margin gridDefault captiveJudged lowDefault chosen lossOf energyWithLosses gramsOf figureOf
 run calls = answers step reply newLedger calls
 
 -- What stands after a list of calls. `unfolding stands` opens what its exact values compute by.

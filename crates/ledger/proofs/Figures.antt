@@ -15,18 +15,18 @@ use Rattle.rounding.proofs.Ratio.{All, Within, all-then, sum-over, conservative
 use Rattle.metering.specs.Reading.{limit}
 use Rattle.metering.specs.Energy.{exactEnergy}
 use Rattle.metering.proofs.Readings.{unit-above-zero}
-use Rattle.emissions.specs.Outcome.{Outcome, refused, given}
-use Rattle.emissions.specs.Factor.{direction, Choice, chosen, factorOf, exactFactorOf}
+use Rattle.rounding.specs.Outcome.{Outcome, refused, given}
+use Rattle.emissions.specs.Factor.{direction, Chosen, chosen, exactFactorOf}
 use Rattle.emissions.specs.Loss.{lossOf}
 use Rattle.emissions.specs.Figure.{Figure, figureOf, energyWithLosses, gramsOf, exactGrams, gapLimit, gapAllowance}
 use Rattle.emissions.specs.declared.Side.{Side}
 use Rattle.emissions.specs.declared.Side.the-variants.{Project, Leakage, Baseline}
-use Rattle.emissions.proofs.Outcomes.{given-is, then-given}
+use Rattle.rounding.proofs.Outcomes.{given-is, then-given}
 use Rattle.emissions.proofs.Factors.{GridSound, FactorSound, chosen-sound}
 use Rattle.emissions.proofs.Losses.{loss-limit}
 use Rattle.emissions.proofs.Figures.{figure-conservative, figure-within-allowance, figure-over}
 use Rattle.ledger.specs.Judging.{metersOf, kept}
-use Rattle.report.specs.Report.{Numbered, sourcesOf, plantsOf, consumption, comparesFactor, comparesLoss, siteOf, sourceFigure, Figured, Figures, declined, figured, withFigure, figuresFrom, sideIndex, ofSide, gramsIn, sideReport, Report, reportFrom, refusedWith, refusedAt, reported, allFit, replyFrom, reportOf}
+use Rattle.report.specs.Report.{Numbered, sourcesOf, plantsOf, consumption, comparesFactor, comparesLoss, siteOf, captiveAt, sourceFigure, Figured, Figures, declined, figured, withFigure, figuresFrom, sideIndex, ofSide, gramsIn, sideReport, Report, reportFrom, refusedWith, refusedAt, reported, allFit, replyFrom, reportOf}
 use Rattle.ledger.specs.Standing.{Standing, energyOf, keptOf, books}
 use Rattle.ledger.specs.Exact.{figuredAt, exactEnergyOf, exactFigure, gap, listOf, figuresOf, exactSide, exactReduction, sideAllowance}
 use Rattle.ledger.specs.Claim.{SourceSafe, SideSafe, ReportSafe}
@@ -57,42 +57,43 @@ energy-over e = unit-above-zero
 -- ---- one source
 
 -- The figure by its option and its loss.
-module _ (s : Standing) (h : Accepted s) (n : ℕ) (e : SourceEntry) (at : s .source n ≡ some e) (c : Choice) (T : ℕ)
-    (hc : chosen (direction (e .side)) (s .grid) (siteOf (plantsOf (books s))) (consumption comparesFactor (sourcesOf (books s))) (e .supply) ≡ given c)
+module _ (s : Standing) (h : Accepted s) (n : ℕ) (e : SourceEntry) (at : s .source n ≡ some e) (x : Chosen) (T : ℕ)
+    (hc : chosen (direction (e .side)) (s .grid) (captiveAt (direction (e .side)) (plantsOf (books s))) (consumption comparesFactor (sourcesOf (books s))) (e .supply)
+    ≡ given x)
     (hT : lossOf (direction (e .side)) (consumption comparesLoss (sourcesOf (books s))) (e .loss) ≡ given T) where
   abbrev F : ℕ
-  F = factorOf (direction (e .side)) (s .grid) (siteOf (plantsOf (books s))) c
+  F = x .factor
 
   abbrev exactF : Ratio
-  exactF = exactFactorOf (s .grid) (siteOf (plantsOf (books s))) c
+  exactF = exactFactorOf (s .grid) (siteOf (plantsOf (books s))) (x .choice)
 
   factor : FactorSound (direction (e .side)) F exactF
   factor =
       chosen-sound (direction (e .side)) (s .grid) (siteOf (plantsOf (books s))) (consumption comparesFactor (sourcesOf (books s))) (h .grid)
-      (site-sound (s .plant) (λ k p q. h .plant k p q .lines)) (e .supply) c hc
+      (site-sound (s .plant) (λ k p q. h .plant k p q .lines)) (e .supply) x hc
 
   loss : T ≤ 5000
   loss = loss-limit (direction (e .side)) (consumption comparesLoss (sourcesOf (books s))) (e .loss) T (h .source n e at .loss) hT
 
-  exact-is : exactFigure s (figuredAt n e (figureOf (direction (e .side)) (energyOf e) c T F)) ≡ exactGrams (exactEnergy (metersOf e)) T exactF
+  exact-is : exactFigure s (figuredAt n e (figureOf (direction (e .side)) (energyOf e) (x .choice) T F)) ≡ exactGrams (exactEnergy (metersOf e)) T exactF
   unfolding exactFigure figureOf
   exact-is = ap (λ (o : Option SourceEntry). exactGrams (exactEnergyOf o) T exactF) at
 
-  option-safe : FiguredSafe s (figuredAt n e (figureOf (direction (e .side)) (energyOf e) c T F))
+  option-safe : FiguredSafe s (figuredAt n e (figureOf (direction (e .side)) (energyOf e) (x .choice) T F))
   unfolding figureOf
   option-safe =
       let facts = h .source n e at in
       let dir = direction (e .side) in
-      let x = exactEnergy (metersOf e) in
+      let energy = exactEnergy (metersOf e) in
       let back = sym exact-is in
       let U = energyWithLosses dir (energyOf e) T in
       let g = gramsOf dir U F in
       record {
-        fraction = subst (λ (r : Ratio). 0 < r .over) back (figure-over x T exactF (energy-over e) (factor .over));
+        fraction = subst (λ (r : Ratio). 0 < r .over) back (figure-over energy T exactF (energy-over e) (factor .over));
         near = subst (λ (r : Ratio). Conservative dir g r (gapLimit F U)) back
-            (figure-conservative dir (energyOf e) T F x exactF (energy-over e) (factor .over) (factor .unsigned) loss (facts .near) (factor .near));
+            (figure-conservative dir (energyOf e) T F energy exactF (energy-over e) (factor .over) (factor .unsigned) loss (facts .near) (factor .near));
         small = subst (λ (r : Ratio). Conservative dir g r gapAllowance) back
-            (figure-within-allowance dir (energyOf e) T F x exactF (energy-over e) (factor .over) (factor .unsigned) loss (facts .near) (factor .near)
+            (figure-within-allowance dir (energyOf e) T F energy exactF (energy-over e) (factor .over) (factor .unsigned) loss (facts .near) (factor .near)
             (facts .limit) (factor .limit));
       }
 
@@ -100,7 +101,8 @@ pub source-safe : (s : Standing) → Accepted s → (n : ℕ) (e : SourceEntry) 
     → sourceFigure (books s) (kept e (energyOf e)) ≡ given f → FiguredSafe s (figuredAt n e f)
 unfolding sourceFigure
 source-safe s h n e at f q =
-    let a = then-given (chosen (direction (e .side)) (s .grid) (siteOf (plantsOf (books s))) (consumption comparesFactor (sourcesOf (books s))) (e .supply)) _ q in
+    let dir = direction (e .side) in
+    let a = then-given (chosen dir (s .grid) (captiveAt dir (plantsOf (books s))) (consumption comparesFactor (sourcesOf (books s))) (e .supply)) _ q in
     let b = then-given (lossOf (direction (e .side)) (consumption comparesLoss (sourcesOf (books s))) (e .loss)) _ (a .2) in
     subst (λ (g : Figure). FiguredSafe s (figuredAt n e g)) (given-is (b .2)) (option-safe s h n e at (a .0) (b .0) (a .1) (b .1))
 

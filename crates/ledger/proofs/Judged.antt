@@ -10,7 +10,7 @@ use borrow.Author.Tests.{le-leb, lt-leb}
 use Rattle.metering.specs.Energy.{judgedMeters, settledEnergy}
 use Rattle.metering.specs.declared.MetersJudged.{MetersJudged}
 use Rattle.metering.specs.declared.EnergyJudged.{EnergyJudged}
-use Rattle.emissions.specs.Outcome.{Outcome, refused, given, refuseUnless}
+use Rattle.rounding.specs.Outcome.{Outcome, refused, given, refuseUnless}
 use Rattle.emissions.specs.Factor.{direction}
 use Rattle.report.specs.Records.{plantJudged, siteFits, lossFits, lossMatches}
 use Rattle.ledger.specs.Judging.{dropJudged, onRead, onEnergy, kept, sourceJudged}

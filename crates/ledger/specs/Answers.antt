@@ -1,5 +1,5 @@
 -- What the answers of the code mean: the paper's number and values of each case.
-use Rattle.emissions.specs.Outcome.{Outcome, refused, given}
+use Rattle.rounding.specs.Outcome.{Outcome, refused, given}
 use Rattle.report.specs.declared.records.Source.{Source}
 use Rattle.ledger.specs.declared.SourceJudged.{SourceJudged}
 use Rattle.ledger.specs.declared.SourceJudged.the-variants as sourceJudged

@@ -6,18 +6,16 @@ use lib.Ieee.{binary32, ofBits}
 use Rattle.rounding.specs.declared.Direction.the-variants.{Up, Down}
 use Rattle.metering.specs.Reading.{wattHours}
 use Rattle.metering.specs.declared.Reading.the-variants.{Single}
-use Rattle.metering.specs.declared.WattHours.{WattHours}
-use Rattle.metering.specs.declared.WattHours.the-variants.{Refused, Rounded}
 use Rattle.fuel.specs.Fuel.{roundedMilligrams}
 use Rattle.fuel.specs.declared.FuelLine.{FuelLine}
-use Rattle.emissions.specs.Outcome.{Outcome, refused, given}
+use Rattle.rounding.specs.Outcome.{Outcome, refused, given}
 use Rattle.emissions.specs.Factor.{captiveJudged}
 use Rattle.emissions.specs.Figure.{energyWithLosses}
 
--- What a row says: a register's watt-hours down and up; a fuel line's milligrams; a captive factor of so many milligrams over so many kWh,
+-- What a row says: a register's watt-hours down and up, or their refusal; a fuel line's milligrams; a captive factor of so many milligrams over so many kWh,
 -- down and up; a loss T on an energy E, down and up.
 pub data Row : Type 0 where
-  register : ℕ → WattHours → WattHours → Row
+  register : ℕ → Outcome ℕ → Outcome ℕ → Row
   fuelLine : FuelLine → ℕ → Row
   captive : ℕ → ℕ → Outcome ℕ → Outcome ℕ → Row
   losses : ℕ → ℕ → ℕ → ℕ → Row
@@ -30,12 +28,12 @@ Right (losses E T down up) = (energyWithLosses Down E T ≡ down) × (energyWith
 
 abbrev pub table : List Row
 table =
-    register 0x3f800000 (Rounded 1000) (Rounded 1000)  -- (a)
-    ∷ register 0x42f6e979 (Rounded 123456) (Rounded 123457)  -- (b)
-    ∷ register 0x00000001 (Rounded 0) (Rounded 1)  -- (c)
-    ∷ register 0x80000000 (Rounded 0) (Rounded 0)  -- (d)
-    ∷ register 0x4cbebc20 (Rounded 100000000000) (Rounded 100000000000)  -- (e)
-    ∷ register 0x4cbebc21 Refused Refused
+    register 0x3f800000 (given 1000) (given 1000)  -- (a)
+    ∷ register 0x42f6e979 (given 123456) (given 123457)  -- (b)
+    ∷ register 0x00000001 (given 0) (given 1)  -- (c)
+    ∷ register 0x80000000 (given 0) (given 0)  -- (d)
+    ∷ register 0x4cbebc20 (given 100000000000) (given 100000000000)  -- (e)
+    ∷ register 0x4cbebc21 (refused 3) (refused 3)
     ∷ fuelLine (record { quantity = 1000; ncv = 43000; factor = 74100 }) 3186300000  -- (f)
     ∷ captive 3186300000 7000 (given 455185) (given 455186)  -- (g)
     ∷ losses 1000001 2000 1200001 1200002  -- (h)

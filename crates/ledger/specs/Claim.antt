@@ -5,7 +5,7 @@ use mathlib.Core.List.{List}
 use mathlib.Core.Option.{some}
 use Rattle.rounding.specs.Ratio.{integer, _≤ᵣ_, _<ᵣ_, _+ᵣ_, Conservative}
 use Rattle.rounding.specs.Calls.{answers, Held}
-use Rattle.emissions.specs.Outcome.{given}
+use Rattle.rounding.specs.Outcome.{given}
 use Rattle.emissions.specs.Factor.{direction}
 use Rattle.emissions.specs.Figure.{Figure, gapLimit, gapAllowance}
 use Rattle.emissions.specs.declared.Side.{Side}

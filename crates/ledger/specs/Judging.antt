@@ -1,4 +1,5 @@
--- When an entry or a drop is refused, and with which number (document 01, "How each operation declines": grid, plant and source entry, drop).
+-- When a grid or source entry or a drop is refused, and with which number (document 01, "How each operation declines"). A plant entry is
+-- judged in `Records` of the crate `report`.
 use Prim.Native.Nat.{ℕ}
 use mathlib.Core.Bool.{Bool, true, false, _&&_}
 use mathlib.Core.List.{List}
@@ -11,7 +12,7 @@ use Rattle.metering.specs.declared.MetersJudged.{MetersJudged}
 use Rattle.metering.specs.declared.MetersJudged.the-variants as metersJudged
 use Rattle.metering.specs.declared.EnergyJudged.{EnergyJudged}
 use Rattle.metering.specs.declared.EnergyJudged.the-variants as energyJudged
-use Rattle.emissions.specs.Outcome.{Outcome, refused, given, refuseUnless}
+use Rattle.rounding.specs.Outcome.{Outcome, refused, given, refuseUnless}
 use Rattle.emissions.specs.Factor.{factorLimit, direction}
 use Rattle.emissions.specs.declared.GridEntry.{GridEntry}
 use Rattle.ledger.specs.declared.SourceEntry.{SourceEntry}

@@ -5,7 +5,7 @@ use mathlib.Core.Bool.{cond}
 use mathlib.Core.Option.{Option, none, some}
 use lib.Dec.{eqb}
 use Rattle.metering.specs.Energy.{roundedAdding, roundedTaking}
-use Rattle.emissions.specs.Outcome.{Outcome, refused, given}
+use Rattle.rounding.specs.Outcome.{Outcome, refused, given}
 use Rattle.emissions.specs.Factor.{direction}
 use Rattle.emissions.specs.declared.GridEntry.{GridEntry}
 use Rattle.emissions.specs.declared.Grid.{Grid}

@@ -10,7 +10,7 @@ use lib.Seq.{drop-cons, getD-take, length-take-le}
 use borrow.Author.Tests.{le-leb, lt-leb}
 use Rattle.fuel.specs.Fuel.{withinLimits}
 use Rattle.fuel.specs.declared.FuelLine.{FuelLine}
-use Rattle.emissions.specs.Outcome.{Outcome, refused, given, refuseUnless}
+use Rattle.rounding.specs.Outcome.{Outcome, refused, given, refuseUnless}
 use Rattle.report.specs.Records.{linesOf, allWithinLimits, plantJudged}
 use Rattle.report.specs.Report.{ok, refusedWith, acknowledged}
 use Rattle.report.specs.declared.records.Plant.{Plant}

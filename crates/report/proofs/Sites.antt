@@ -1,8 +1,8 @@
 -- A site's rounded milligrams stand on the safe side of the exact ones, off by at most 1 for each of 32 fuel lines. Assumes nothing.
 use Prim.Native.Nat.{ℕ, _<_, _≤_}
-use mathlib.Core.Path.{_≡_, refl}
+use mathlib.Core.Path.{_≡_, refl, subst}
 use mathlib.Core.List.{List}
-use mathlib.Core.Option.{Option, some}
+use mathlib.Core.Option.{Option, none, some, Option·map, Option·some-injective}
 use native.Mathlib.Omega.{arith}
 use lib.ListN.{length, length-map}
 use Rattle.rounding.specs.Ratio.{whole}
@@ -12,58 +12,65 @@ use Rattle.fuel.specs.Fuel.{exactMilligrams, roundedMilligrams}
 use Rattle.fuel.specs.declared.FuelLine.{FuelLine}
 use Rattle.fuel.proofs.Fuel.{line-over, line-conservative}
 use Rattle.emissions.proofs.Factors.{SiteSound}
-use Rattle.report.specs.Records.{linesOf}
-use Rattle.report.specs.Report.{Numbered, standing, those, plantMilligrams, exactPlant, plantsAt, siteOf}
+use Rattle.report.specs.Records.{PlainPlant, plainOf, linesOf}
+use Rattle.report.specs.Report.{Numbered, plantsIn, those, plantMilligrams, exactPlant, plantsAt, siteOf}
 use Rattle.report.specs.declared.records.Plant.{Plant}
-use Rattle.report.proofs.Lists.{standing-all, standing-length, those-all, those-length}
+use Rattle.report.proofs.Lists.{never-some, standing-all, standing-length, those-all, those-length}
 
 -- ---- a plant
 
 -- What an accepted plant has: at most four fuel lines.
-abbrev pub PlantSound : Plant → Type 0
-PlantSound p = length (linesOf p) ≤ 4
+abbrev PlantSound : PlainPlant → Type 0
+PlantSound p = length (p .lines) ≤ 4
 
 -- A plant is off by at most 1 mg for each of them.
-plant-within : (dir : Direction) (p : Plant) → PlantSound p → Within dir (plantMilligrams dir p) (exactPlant p) (whole 4)
+plant-within : (dir : Direction) (p : PlainPlant) → PlantSound p → Within dir (plantMilligrams dir p) (exactPlant p) (whole 4)
 unfolding plantMilligrams exactPlant
 plant-within dir p h =
-    sum-within-equal dir (roundedMilligrams dir) exactMilligrams 1 4 (linesOf p) h (all-of line-within (linesOf p))
+    sum-within-equal dir (roundedMilligrams dir) exactMilligrams 1 4 (p .lines) h (all-of line-within (p .lines))
   where
     line-within : (l : FuelLine) → Within dir (roundedMilligrams dir l) (exactMilligrams l) (whole 1)
     line-within l = conservative-within dir (roundedMilligrams dir l) (exactMilligrams l) (whole 1) (line-conservative dir l)
 
 -- Its exact milligrams have a denominator above 0 and nothing subtracted.
-plant-over : (p : Plant) → 0 < exactPlant p .over
+plant-over : (p : PlainPlant) → 0 < exactPlant p .over
 unfolding exactPlant
-plant-over p = sum-over exactMilligrams (linesOf p) (all-of line-over (linesOf p))
+plant-over p = sum-over exactMilligrams (p .lines) (all-of line-over (p .lines))
 
 line-unsigned : (l : FuelLine) → exactMilligrams l .minus ≡ 0
 unfolding exactMilligrams
 line-unsigned l = refl
 
-plant-unsigned : (p : Plant) → exactPlant p .minus ≡ 0
+plant-unsigned : (p : PlainPlant) → exactPlant p .minus ≡ 0
 unfolding exactPlant
-plant-unsigned p = sum-unsigned exactMilligrams (linesOf p) (all-of line-unsigned (linesOf p))
+plant-unsigned p = sum-unsigned exactMilligrams (p .lines) (all-of line-unsigned (p .lines))
 
 -- ---- the plants of a site
 
 -- So with the plants at a site: no more than stand, and what holds of all that stand holds of them.
-at-site-length : (S : ℕ) (xs : List (Numbered Plant)) → length (plantsAt S xs) ≤ length xs
+at-site-length : (S : ℕ) (xs : List (Numbered PlainPlant)) → length (plantsAt S xs) ≤ length xs
 unfolding plantsAt
 at-site-length S xs = simp length-map (those-length _ xs)
 
-at-site : (P : Plant → Type 0) (S : ℕ) (xs : List (Numbered Plant)) → All (λ (x : Numbered Plant). P (x .item)) xs → All P (plantsAt S xs)
+at-site : (P : PlainPlant → Type 0) (S : ℕ) (xs : List (Numbered PlainPlant)) → All (λ (x : Numbered PlainPlant). P (x .item)) xs → All P (plantsAt S xs)
 unfolding plantsAt
-at-site P S xs h = all-map P _ (those _ xs) (all-then (λ x k. k .0) (those _ xs) (those-all (λ (x : Numbered Plant). P (x .item)) _ xs h))
+at-site P S xs h = all-map P _ (those _ xs) (all-then (λ x k. k .0) (those _ xs) (those-all (λ (x : Numbered PlainPlant). P (x .item)) _ xs h))
+
+-- What is read of a plant that stands.
+read-sound : (o : Option Plant) → ((p : Plant) → o ≡ some p → PlantSound (plainOf p)) → (p : PlainPlant) → Option·map plainOf o ≡ some p → PlantSound p
+read-sound none h p e = absurd (never-some e)
+read-sound (some q) h p e = subst PlantSound (Option·some-injective (plainOf q) p e) (h q refl)
 
 -- At most eight plants of at most four lines, each line off by at most 1 mg.
-pub site-sound : (place : ℕ → Option Plant) → ((n : ℕ) (p : Plant) → place n ≡ some p → PlantSound p) → (S : ℕ)
-    → SiteSound (siteOf (standing place 0 8) S)
+pub site-sound : (place : ℕ → Option Plant) → ((n : ℕ) (p : Plant) → place n ≡ some p → length (linesOf p) ≤ 4) → (S : ℕ)
+    → SiteSound (siteOf (plantsIn place) S)
 unfolding siteOf
 site-sound place h S =
-    let ps = plantsAt S (standing place 0 8) in
-    let short : length ps ≤ 8 = omega (arith, at-site-length S (standing place 0 8), standing-length place 0 8) in
-    let sound : All PlantSound ps = at-site PlantSound S (standing place 0 8) (standing-all place (λ (x : Numbered Plant). PlantSound (x .item)) h 0 8) in
+    let at : ℕ → Option PlainPlant = λ n. Option·map plainOf (place n) in
+    let ps = plantsAt S (plantsIn place) in
+    let short : length ps ≤ 8 = omega (arith, at-site-length S (plantsIn place), standing-length at 0 8) in
+    let sound : All PlantSound ps =
+    at-site PlantSound S (plantsIn place) (standing-all at (λ (x : Numbered PlainPlant). PlantSound (x .item)) (λ n. read-sound (place n) (h n)) 0 8) in
     record {
       over = sum-over exactPlant ps (all-of plant-over ps);
       unsigned = sum-unsigned exactPlant ps (all-of plant-unsigned ps);

@@ -4,7 +4,7 @@ use Prim.Native.Nat.{ℕ, zero, suc, _+_, _-_, _≤_, _<_, zero-le}
 use mathlib.Core.Path.{_≡_, refl, sym, subst, ap, _∙_}
 use mathlib.Core.Bool.{Bool, true, false, cond, _&&_}
 use mathlib.Core.List.{List, [], _∷_, map}
-use mathlib.Core.Option.{Option, none, some}
+use mathlib.Core.Option.{Option, none, some, Option·map}
 use mathlib.Core.Logic.{inl, inr}
 use native.Mathlib.Numerals.{add-one}
 use native.Mathlib.Omega.{arith}
@@ -18,40 +18,31 @@ use Rattle.rounding.specs.declared.Direction.{Direction}
 use Rattle.rounding.specs.declared.Direction.the-variants.{Up, Down}
 use Rattle.rounding.proofs.Tests.{and-both}
 use Rattle.metering.specs.Reading.{limit}
-use Rattle.fuel.specs.Fuel.{withinLimits, roundedMilligrams, lineMilligrams}
+use Rattle.fuel.specs.Fuel.{withinLimits, roundedMilligrams}
 use Rattle.fuel.specs.declared.FuelLine.{FuelLine}
-use Rattle.fuel.specs.declared.Milligrams.the-variants.{Refused, Rounded}
-use Rattle.emissions.specs.Outcome.{Outcome, refused, given}
+use Rattle.rounding.specs.Outcome.{Outcome, refused, given}
 use Rattle.emissions.specs.Factor.{direction}
 use Rattle.emissions.specs.declared.Consumption.{Consumption}
 use Rattle.emissions.specs.declared.Side.{Side}
 use Rattle.emissions.specs.declared.Supply.{Supply}
-use Rattle.emissions.proofs.Outcomes.{test-held}
-use Rattle.report.specs.Records.{siteFits, lossFits, lossMatches, linesOf, allWithinLimits, plantJudged, noPlant, noSource, plantIn, sourceIn, isGiven, plantIntact, sourceIntact, allIntact, plantPlace, sourcePlace}
+use Rattle.rounding.proofs.Outcomes.{test-held}
+use Rattle.report.specs.Records.{PlainPlant, plainOf, siteFits, lossFits, lossMatches, linesOf, allWithinLimits, plantJudged, noPlant, noSource, plantIn, sourceIn, isGiven, plantIntact, sourceIntact, allIntact, plantPlace, sourcePlace}
 use Rattle.report.specs.Report.{Numbered, listed, standing, those, consumption, plantsAt}
 use Rattle.report.specs.Steps.{ofDirection, share, joined, Small, withShare, addedAt}
 use Rattle.report.specs.declared.records.Plant.{Plant}
 use Rattle.report.specs.declared.records.Source.{Source}
 use Rattle.report.specs.declared.records.PlantRecord.{PlantRecord}
 use Rattle.report.specs.declared.records.SourceRecord.{SourceRecord}
+use Rattle.report.proofs.Intact.{getD-any}
 
 -- ---- a place
 
--- Inside a list, the default is not read.
-any-default : {A : Type 0} (xs : List A) (i : ℕ) (d e : A) → i < length xs → getD xs i d ≡ getD xs i e
-any-default [] i d e h = absurd (none-there h)
-  where
-    none-there : i < 0 → ⊥
-    none-there h = omega arith
-any-default (x ∷ xs) zero d e h = refl
-any-default (x ∷ xs) (suc i) d e h = any-default xs i d e (omega arith)
-
--- So a record that was read shows what stands under its number.
+-- A record that was read shows what stands under its number.
 pub plant-at : (rs : List PlantRecord) (i : ℕ) (d : PlantRecord) → i < length rs → plantIn (getD rs i d) ≡ plantPlace rs i
-plant-at rs i d h = ap plantIn (any-default rs i d noPlant h)
+plant-at rs i d h = ap plantIn (getD-any rs i d noPlant h)
 
 pub source-at : (rs : List SourceRecord) (i : ℕ) (d : SourceRecord) → i < length rs → sourceIn (getD rs i d) ≡ sourcePlace rs i
-source-at rs i d h = ap sourceIn (any-default rs i d noSource h)
+source-at rs i d h = ap sourceIn (getD-any rs i d noSource h)
 
 -- What stands under the last numbers, of n: the first of them, then the others.
 pub rest-next : {A : Type 0} (place : ℕ → Option A) (n i : ℕ) → i < n
@@ -135,49 +126,36 @@ module _ (ls : List FuelLine) (n i : ℕ) (room : n ≤ length ls) where
       let m : length (take n ls) ≤ i = rw (length-take-le n ls room) h in
       rw (drop-of-length-le (take n ls) m)
 
--- A line within its limits gives its rounded milligrams.
-line-given : (dir : Direction) (l : FuelLine) → withinLimits l ≡ true → lineMilligrams dir l ≡ Rounded (roundedMilligrams dir l)
-unfolding lineMilligrams
-line-given dir l h = rw h
-
-pub line-refused : (dir : Direction) (l : FuelLine) → withinLimits l ≡ true → lineMilligrams dir l ≡ Refused → ⊥
-line-refused dir l h e =
-    let g = line-given dir l h in
-    let z : _≡_ {A = ℕ} 0 1 = cc in
-    omega arith
-
-pub line-is : (dir : Direction) (l : FuelLine) (w : ℕ) → withinLimits l ≡ true → lineMilligrams dir l ≡ Rounded w → w ≡ roundedMilligrams dir l
-line-is dir l w h e =
-    let g = line-given dir l h in
-    cc
-
 -- ---- the plants at a site
 
 -- What stands under a number adds its part to a sum over the plants at a site.
-site-adds : (S : ℕ) (f : Plant → ℕ) (i : ℕ) (o : Option Plant) (xs : List (Numbered Plant))
-    → sum (map f (plantsAt S (listed i o xs))) ≡ addedAt S f o + sum (map f (plantsAt S xs))
+site-adds : (S : ℕ) (f : PlainPlant → ℕ) (i : ℕ) (o : Option Plant) (xs : List (Numbered PlainPlant))
+    → sum (map f (plantsAt S (listed i (Option·map plainOf o) xs))) ≡ addedAt S f o + sum (map f (plantsAt S xs))
 unfolding plantsAt those sum
 site-adds S f i none xs = omega arith
 site-adds S f i (some p) xs = go (eqb (p .site) S) refl
   where
     go : (t : Bool) → eqb (p .site) S ≡ t
-        → sum (map f (plantsAt S (listed i (some p) xs))) ≡ cond t (f p) 0 + sum (map f (plantsAt S xs))
+        → sum (map f (plantsAt S (listed i (some (plainOf p)) xs))) ≡ cond t (f (plainOf p)) 0 + sum (map f (plantsAt S xs))
     go true e = rw e
     go false e = rw e (omega arith)
 
 -- The sum over the plants at a site that stand under the numbers from i, of n.
-abbrev pub siteFrom : ℕ → (Plant → ℕ) → (ℕ → Option Plant) → ℕ → ℕ → ℕ
-siteFrom S f place n i = sum (map f (plantsAt S (standing place i (n - i))))
+abbrev pub plainAt : (ℕ → Option Plant) → ℕ → Option PlainPlant
+plainAt place n = Option·map plainOf (place n)
 
-pub site-turn : (S : ℕ) (f : Plant → ℕ) (place : ℕ → Option Plant) (n i : ℕ) → i < n
+abbrev pub siteFrom : ℕ → (PlainPlant → ℕ) → (ℕ → Option Plant) → ℕ → ℕ → ℕ
+siteFrom S f place n i = sum (map f (plantsAt S (standing (plainAt place) i (n - i))))
+
+pub site-turn : (S : ℕ) (f : PlainPlant → ℕ) (place : ℕ → Option Plant) (n i : ℕ) → i < n
     → siteFrom S f place n i ≡ addedAt S f (place i) + siteFrom S f place n (i + 1)
 site-turn S f place n i h =
-    ap (λ (xs : List (Numbered Plant)). sum (map f (plantsAt S xs))) (rest-next place n i h)
-    ∙ site-adds S f i (place i) (standing place (i + 1) (n - (i + 1)))
+    ap (λ (xs : List (Numbered PlainPlant)). sum (map f (plantsAt S xs))) (rest-next (plainAt place) n i h)
+    ∙ site-adds S f i (place i) (standing (plainAt place) (i + 1) (n - (i + 1)))
 
-pub site-end : (S : ℕ) (f : Plant → ℕ) (place : ℕ → Option Plant) (n i : ℕ) → n ≤ i → siteFrom S f place n i ≡ 0
+pub site-end : (S : ℕ) (f : PlainPlant → ℕ) (place : ℕ → Option Plant) (n i : ℕ) → n ≤ i → siteFrom S f place n i ≡ 0
 unfolding plantsAt those sum
-site-end S f place n i h = rw (rest-none place n i h)
+site-end S f place n i h = rw (rest-none (plainAt place) n i h)
 
 -- ---- consumption
 
@@ -235,9 +213,12 @@ total-end counts c place n i h = rw (rest-none place n i h) (consumed (omega ari
 
 -- ---- the bounds of the sums
 
--- An intact source's energy is within the limit.
-pub energy-within : (s : Source) → sourceIntact (some s) ≡ true → s .energy ≤ limit
-energy-within s h = leb-true _ _ (and-both (siteFits (s .supply) && lossFits (s .loss) && lossMatches (s .supply) (s .loss)) _ h .1)
+-- What an intact source has: a loss and an energy within their limits.
+pub source-fits : (s : Source) → sourceIntact (some s) ≡ true → (lossFits (s .loss) ≡ true) × (s .energy ≤ limit)
+source-fits s h =
+    let p = and-both (siteFits (s .supply) && lossFits (s .loss) && lossMatches (s .supply) (s .loss)) _ h in
+    let q = and-both (siteFits (s .supply) && lossFits (s .loss)) _ (p .0) in
+    (and-both (siteFits (s .supply)) _ (q .0) .1, leb-true _ _ (p .1))
 
 pub share-small : (side : Side) (E : ℕ) (t : Bool) → E ≤ limit → Small 1 (share side E t)
 share-small side E true h = go (direction side)
@@ -257,7 +238,7 @@ pub small-next : (counts : Supply → Bool) (i : ℕ) (c : Consumption) (o : Opt
     → Small (i + 1) (withShare counts c o)
 small-next counts i c none h s = small-more (omega arith) s
 small-next counts i c (some a) h s =
-    let b = share-small (a .side) (a .energy) (counts (a .supply)) (energy-within a h) in
+    let b = share-small (a .side) (a .energy) (counts (a .supply)) (source-fits a h .1) in
     record {
       project = omega (arith, s .project, b .project);
       baseline = omega (arith, s .baseline, b .baseline);

@@ -1,11 +1,10 @@
 -- The report's walk over the sources: the figure of a source, and what is left of the walk at each number. Assumes nothing.
-use Prim.Native.Nat.{ℕ, zero, suc, _+_, _-_, _*_, _≤_, _<_}
+use Prim.Native.Nat.{ℕ, suc, _+_, _-_, _*_, _≤_, _<_}
 use mathlib.Core.Path.{_≡_, refl, sym, ap, subst, _∙_}
-use mathlib.Core.Bool.{Bool, true, _&&_}
+use mathlib.Core.Bool.{true, _&&_}
 use mathlib.Core.List.{List, [], _∷_}
 use mathlib.Core.Option.{Option, none, some}
-use mathlib.Core.Logic.{inl, inr}
-use native.Mathlib.Nat.{mul-le-mul-right, eq-or-lt-of-le}
+use native.Mathlib.Nat.{mul-le-mul-right}
 use native.Mathlib.Numerals.{add-one}
 use native.Mathlib.Omega.{arith}
 use borrow.Author.Tests.{leb-true}
@@ -14,8 +13,8 @@ use Rattle.rounding.specs.declared.Direction.{Direction}
 use Rattle.rounding.proofs.Divided.{divided-at-most}
 use Rattle.rounding.proofs.Tests.{and-both}
 use Rattle.metering.specs.Reading.{limit}
-use Rattle.emissions.specs.Outcome.{Outcome, refused, given, andThen}
-use Rattle.emissions.specs.Factor.{direction, factorLimit, Choice, factorOf, chosen}
+use Rattle.rounding.specs.Outcome.{Outcome, refused, given, andThen}
+use Rattle.emissions.specs.Factor.{direction, factorLimit, Chosen, chosen, factorIn}
 use Rattle.emissions.specs.Loss.{lossOf}
 use Rattle.emissions.specs.Figure.{energyWithLosses, gramsOf, figureOf}
 use Rattle.emissions.specs.Figure as figure
@@ -25,15 +24,16 @@ use Rattle.emissions.specs.declared.Grid.the-variants.{Absent, Entered}
 use Rattle.emissions.specs.declared.Loss.{Loss}
 use Rattle.emissions.specs.declared.Loss.the-variants.{Nothing, Measured, Default20, Default3}
 use Rattle.emissions.specs.declared.Side.{Side}
+use Rattle.emissions.specs.declared.Supply.{Supply}
 use Rattle.emissions.specs.declared.Side.the-variants.{Project, Leakage, Baseline}
-use Rattle.emissions.proofs.Outcomes.{never-given, given-is, then-given}
+use Rattle.rounding.proofs.Outcomes.{never-given, given-is, then-given}
 use Rattle.emissions.proofs.Factors.{GridSound}
-use Rattle.emissions.proofs.Losses.{loss-limit}
+use Rattle.emissions.proofs.Supplies.{factor-limit, at-site-limit}
+use Rattle.emissions.proofs.Losses.{LossSound, loss-limit}
 use Rattle.emissions.proofs.Figures.{energy-limit}
-use Rattle.report.specs.Records.{siteFits, lossFits, lossMatches, gridIntact, allIntact, sourceIntact, sourcePlace}
-use Rattle.report.specs.Report.{Books, Numbered, listed, standing, those, siteOf, sourceFigure, Figured, Figures, declined, figured, withFigure, figuresFrom, ofSide, booksOf}
+use Rattle.report.specs.Records.{PlainPlant, lossFits, gridIntact, plantIntact, allIntact, sourceIntact, sourcePlace}
+use Rattle.report.specs.Report.{Books, Numbered, listed, standing, those, siteOf, captiveAt, plantsOf, intact, sourceFigure, Figured, Figures, declined, figured, withFigure, figuresFrom, ofSide, booksOf}
 use Rattle.report.specs.Steps.{sitePlants, totalsOf, factorAt, figureAt, parts, noSums, oneMore, withGrams, SideBounded, Bounded, sideSum, walkedOf}
-use Rattle.report.specs.declared.records.Plant.{Plant}
 use Rattle.report.specs.declared.records.Source.{Source}
 use Rattle.report.specs.declared.records.PlantRecord.{PlantRecord}
 use Rattle.report.specs.declared.records.SourceRecord.{SourceRecord}
@@ -44,6 +44,7 @@ use Rattle.report.specs.declared.Totals.{Totals}
 use Rattle.report.specs.declared.Walked.{Walked}
 use Rattle.report.specs.declared.Walked.the-variants as walked
 use Rattle.report.proofs.Lists.{numbered}
+use Rattle.report.proofs.Summing.{intact-at, source-fits}
 
 -- ---- the figure of a source
 
@@ -51,19 +52,15 @@ pub grid-sound : (grid : Grid) → gridIntact grid ≡ true → GridSound grid
 grid-sound Absent h = tt
 grid-sound (Entered g) h = leb-true _ _ h
 
--- What an intact source has: a loss and an energy within their limits.
-pub source-fits : (s : Source) → sourceIntact (some s) ≡ true → (lossFits (s .loss) ≡ true) × (s .energy ≤ limit)
-source-fits s h =
-    let p = and-both (siteFits (s .supply) && lossFits (s .loss) && lossMatches (s .supply) (s .loss)) _ h in
-    let q = and-both (siteFits (s .supply) && lossFits (s .loss)) _ (p .0) in
-    (and-both (siteFits (s .supply)) _ (q .0) .1, leb-true _ _ (p .1))
+-- A loss that number 2 does not refuse, and that is open, is at most one half.
+pub loss-sound : (l : Loss) → lossFits l ≡ true → LossSound l
+loss-sound Nothing h = tt
+loss-sound (Measured T) h = leb-true T 5000 h
+loss-sound Default20 h = tt
+loss-sound Default3 h = tt
 
--- An open loss is at most one half.
 pub open-limit : (dir : Direction) (c : Consumption) (l : Loss) (T : ℕ) → lossFits l ≡ true → lossOf dir c l ≡ given T → T ≤ 5000
-open-limit dir c Nothing T h e = loss-limit dir c Nothing T tt e
-open-limit dir c (Measured n) T h e = loss-limit dir c (Measured n) T (leb-true n 5000 h) e
-open-limit dir c Default20 T h e = loss-limit dir c Default20 T tt e
-open-limit dir c Default3 T h e = loss-limit dir c Default3 T tt e
+open-limit dir c l T h e = loss-limit dir c l T (loss-sound l h) e
 
 pub grams-limit : (dir : Direction) (E T F : ℕ) → E ≤ limit → T ≤ 5000 → F ≤ factorLimit
     → gramsOf dir (energyWithLosses dir E T) F ≤ 1500000000000
@@ -72,27 +69,38 @@ grams-limit dir E T F e t f =
     let U = energyWithLosses dir E T in
     divided-at-most dir (U * F) 1000000 1500000000000 (omega arith) (omega (arith, mul-le-mul-right F (energy-limit dir E T e t)))
 
-module _ (grid : Grid) (plants : List (Numbered Plant)) (t : Totals) (s : Source) where
+-- A chosen factor is at most 10,000,000, whatever plants stand.
+pub plants-limit : (dir : Direction) (grid : Grid) (plants : List (Numbered PlainPlant)) (c : Consumption) (supply : Supply) (x : Chosen)
+    → gridIntact grid ≡ true → chosen dir grid (captiveAt dir plants) c supply ≡ given x → x .factor ≤ factorLimit
+plants-limit dir grid plants c supply x h e =
+    factor-limit dir grid (captiveAt dir plants) c (grid-sound grid h) (λ S F k. at-site-limit dir (siteOf plants S) F k) supply x e
+
+pub given-limit : (dir : Direction) (grid : Grid) (plants : List (Numbered PlainPlant)) (c : Consumption) (supply : Supply) (F : ℕ)
+    → gridIntact grid ≡ true → factorAt dir grid plants c supply ≡ given F → F ≤ factorLimit
+given-limit dir grid plants c supply F h e =
+    let p = then-given (chosen dir grid (captiveAt dir plants) c supply) _ e in
+    subst (λ (n : ℕ). n ≤ factorLimit) (given-is (p .2)) (plants-limit dir grid plants c supply (p .0) h (p .1))
+
+module _ (grid : Grid) (plants : List (Numbered PlainPlant)) (t : Totals) (s : Source) where
   -- The figure with the roundings of any direction.
   abbrev figureBy : Direction → Outcome figure.Figure
   figureBy dir =
-      andThen (chosen dir grid (siteOf plants) (t .factor) (s .supply)) (λ ch.
+      andThen (chosen dir grid (captiveAt dir plants) (t .factor) (s .supply)) (λ x.
       andThen (lossOf dir (t .loss) (s .loss)) (λ T.
-      given (figureOf dir (s .energy) ch T (factorOf dir grid (siteOf plants) ch))))
+      given (figureOf dir (s .energy) (x .choice) T (x .factor))))
 
   module _ (dir : Direction) (d : dir ≡ direction (s .side)) where
     pub no-factor : (n : ℕ) → factorAt dir grid plants (t .factor) (s .supply) ≡ refused n → refused n ≡ parts (figureAt grid plants t s)
-    no-factor n e = go (chosen dir grid (siteOf plants) (t .factor) (s .supply)) _ e ∙ ap (λ (k : Direction). parts (figureBy k)) d
+    no-factor n e = go (chosen dir grid (captiveAt dir plants) (t .factor) (s .supply)) _ e ∙ ap (λ (k : Direction). parts (figureBy k)) d
       where
-        go : (o : Outcome Choice) (f : Choice → Outcome figure.Figure) → andThen o (λ ch. given (factorOf dir grid (siteOf plants) ch)) ≡ refused n
-            → refused n ≡ parts (andThen o f)
+        go : (o : Outcome Chosen) (f : Chosen → Outcome figure.Figure) → factorIn o ≡ refused n → refused n ≡ parts (andThen o f)
         go (refused m) f e = cc
-        go (given ch) f e = absurd (never-given (sym e))
+        go (given x) f e = absurd (never-given (sym e))
 
     module _ (F : ℕ) (f : factorAt dir grid plants (t .factor) (s .supply) ≡ given F) where
       pub no-loss : (n : ℕ) → lossOf dir (t .loss) (s .loss) ≡ refused n → refused n ≡ parts (figureAt grid plants t s)
       no-loss n e =
-          let p = then-given (chosen dir grid (siteOf plants) (t .factor) (s .supply)) _ f in
+          let p = then-given (chosen dir grid (captiveAt dir plants) (t .factor) (s .supply)) _ f in
           rw (← d) (simp (p .1, e))
 
       pub both-parts : (T U g : ℕ) → lossOf dir (t .loss) (s .loss) ≡ given T → U ≡ energyWithLosses dir (s .energy) T
@@ -100,12 +108,25 @@ module _ (grid : Grid) (plants : List (Numbered Plant)) (t : Totals) (s : Source
           → given (record { factor = F; energy = U; grams = g }) ≡ parts (figureAt grid plants t s)
       unfolding figureOf
       both-parts T U g e u h =
-          let p = then-given (chosen dir grid (siteOf plants) (t .factor) (s .supply)) _ f in
+          let p = then-given (chosen dir grid (captiveAt dir plants) (t .factor) (s .supply)) _ f in
           go (p .0) (p .1) (given-is (p .2))
         where
-          go : (ch : Choice) → chosen dir grid (siteOf plants) (t .factor) (s .supply) ≡ given ch → factorOf dir grid (siteOf plants) ch ≡ F
+          go : (x : Chosen) → chosen dir grid (captiveAt dir plants) (t .factor) (s .supply) ≡ given x → x .factor ≡ F
               → given (record { factor = F; energy = U; grams = g }) ≡ parts (figureAt grid plants t s)
-          go ch k l = rw (← d) (simp (u, h, k, e, l))
+          go x k l = rw (← d) (simp (u, h, k, e, l))
+
+  -- The figure of an intact source at an intact grid is at most 1,500,000,000,000 grams, whatever plants stand.
+  pub figure-limit : gridIntact grid ≡ true → sourceIntact (some s) ≡ true → (f : figure.Figure) → figureAt grid plants t s ≡ given f
+      → f .grams ≤ 1500000000000
+  unfolding figureOf
+  figure-limit hg hs f e =
+      let dir = direction (s .side) in
+      let p = then-given (chosen dir grid (captiveAt dir plants) (t .factor) (s .supply)) _ e in
+      let q = then-given (lossOf dir (t .loss) (s .loss)) _ (p .2) in
+      let fits = source-fits s hs in
+      subst (λ (g : figure.Figure). g .grams ≤ 1500000000000) (given-is (q .2))
+      (grams-limit dir (s .energy) (q .0) (p .0 .factor) (fits .1) (open-limit dir (t .loss) (s .loss) (q .0) (fits .0) (q .1))
+      (plants-limit dir grid plants (t .factor) (s .supply) (p .0) hg (p .1)))
 
 -- ---- the sums
 
@@ -208,24 +229,18 @@ pub figure-is : (grid : Grid) (plants : List PlantRecord) (sources : List Source
 unfolding sourceFigure
 figure-is grid plants sources t s e = rw e
 
--- ---- limits
+-- The figure of a source of an intact ledger is at most 1,500,000,000,000 grams.
+pub intact-figure-limit : (b : Books) → intact b ≡ true → (n : ℕ) (s : Source) (f : figure.Figure) → n < 32 → b .source n ≡ some s
+    → sourceFigure b s ≡ given f → f .grams ≤ 1500000000000
+unfolding intact sourceFigure
+intact-figure-limit b h n s f l at e =
+    let p = and-both (gridIntact (b .grid) && allIntact plantIntact (b .plant) 8) _ h in
+    let q = and-both (gridIntact (b .grid)) _ (p .0) in
+    let t : Totals = totalsOf (b .source) in
+    figure-limit (b .grid) (plantsOf b) t s (q .0)
+    (subst (λ (o : Option Source). sourceIntact o ≡ true) at (intact-at sourceIntact (b .source) 32 n (p .1) l)) f e
 
--- Each place of an intact list is intact.
-pub intact-at : {A : Type 0} (p : Option A → Bool) (place : ℕ → Option A) (n i : ℕ) → i < n → allIntact p place n ≡ true → p (place i) ≡ true
-unfolding allIntact
-intact-at p place zero i h e = absurd (below-zero h)
-  where
-    below-zero : i < 0 → ⊥
-    below-zero h = omega arith
-intact-at p place (suc n) i h e =
-    let q = and-both (p (place n)) _ e in
-    elim (eq-or-lt-of-le h) [
-      | inl z ↦ subst (λ (k : ℕ). p (place k) ≡ true) (suc-is z) (q .0)
-      | inr l ↦ intact-at p place n i (omega arith) (q .1)
-    ]
-  where
-    suc-is : suc i ≡ suc n → n ≡ i
-    suc-is z = omega arith
+-- ---- limits
 
 pub none-bounded : Bounded 0 noSums
 none-bounded =

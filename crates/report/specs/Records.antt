@@ -7,9 +7,9 @@ use mathlib.Core.Option.{Option, none, some}
 use lib.Dec.{leb}
 use lib.ListN.{take, getD, replicate}
 use Rattle.metering.specs.Reading.{limit}
-use Rattle.fuel.specs.Fuel.{withinLimits}
+use Rattle.fuel.specs.Fuel.{noLine, withinLimits}
 use Rattle.fuel.specs.declared.FuelLine.{FuelLine}
-use Rattle.emissions.specs.Outcome.{Outcome, refused, given, refuseUnless}
+use Rattle.rounding.specs.Outcome.{Outcome, refused, given, refuseUnless}
 use Rattle.emissions.specs.Factor.{factorLimit}
 use Rattle.emissions.specs.declared.Grid.{Grid}
 use Rattle.emissions.specs.declared.Grid.the-variants.{Absent, Entered}
@@ -38,6 +38,15 @@ plantJudged number p =
     refuseUnless 1 (leb number 7 && leb (p .site) 3)
     (refuseUnless 2 (leb (p .count) 4 && leb (p .generation) 100000000 && allWithinLimits (linesOf p))
     (given p))
+
+-- A plant as the rules read it: its site, its generation in kWh, and the fuel lines that count.
+pub record PlainPlant : Type 0 where
+  pub site : ℕ
+  pub generation : ℕ
+  pub lines : List FuelLine
+
+abbrev pub plainOf : Plant → PlainPlant
+plainOf p = record { site = p .site; generation = p .generation; lines = linesOf p }
 
 -- ---- "Source entry: 1 .. site above 3. 2 .. measured loss above 5,000. 5 .."
 
@@ -83,7 +92,7 @@ unfoldable pub noPlant : PlantRecord
 noPlant =
     record {
       stands = false;
-      plant = record { site = 0; generation = 0; lines = replicate 4 (record { quantity = 0; ncv = 0; factor = 0 }); count = 0 };
+      plant = record { site = 0; generation = 0; lines = replicate 4 noLine; count = 0 };
     }
 
 unfoldable pub noSource : SourceRecord

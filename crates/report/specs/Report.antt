@@ -2,7 +2,7 @@
 use Prim.Native.Nat.{ℕ, zero, suc}
 use mathlib.Core.Bool.{Bool, true, false, cond, _&&_}
 use mathlib.Core.List.{List, [], _∷_, map}
-use mathlib.Core.Option.{Option, none, some}
+use mathlib.Core.Option.{Option, none, some, Option·map}
 use lib.Dec.{leb, eqb}
 use lib.IntN.{ℤ, pos, _-ℤ_}
 use lib.ListN.{length}
@@ -10,8 +10,8 @@ use Rattle.rounding.specs.Divided.{divided, sum}
 use Rattle.rounding.specs.Ratio.{Ratio, sumᵣ}
 use Rattle.rounding.specs.declared.Direction.{Direction}
 use Rattle.fuel.specs.Fuel.{exactMilligrams, roundedMilligrams}
-use Rattle.emissions.specs.Outcome.{Outcome, refused, given, andThen}
-use Rattle.emissions.specs.Factor.{direction, Site, factorOf, chosen}
+use Rattle.rounding.specs.Outcome.{Outcome, refused, given, andThen}
+use Rattle.emissions.specs.Factor.{direction, Site, atSite, chosen}
 use Rattle.emissions.specs.Loss.{isProject, isBaseline, lossOf}
 use Rattle.emissions.specs.Figure.{Figure, figureOf}
 use Rattle.emissions.specs.declared.Side.{Side}
@@ -20,7 +20,7 @@ use Rattle.emissions.specs.declared.Supply.{Supply}
 use Rattle.emissions.specs.declared.Supply.the-variants.{Combined, GridDefault, Captive, CaptiveDefault, Either}
 use Rattle.emissions.specs.declared.Grid.{Grid}
 use Rattle.emissions.specs.declared.Consumption.{Consumption}
-use Rattle.report.specs.Records.{linesOf, plantPlace, sourcePlace, gridIntact, plantIntact, sourceIntact, allIntact}
+use Rattle.report.specs.Records.{PlainPlant, plainOf, plantPlace, sourcePlace, gridIntact, plantIntact, sourceIntact, allIntact}
 use Rattle.report.specs.declared.records.Plant.{Plant}
 use Rattle.report.specs.declared.records.Source.{Source}
 use Rattle.report.specs.declared.records.PlantRecord.{PlantRecord}
@@ -49,8 +49,11 @@ standing place from (suc count) = listed from (place from) (standing place (suc 
 abbrev pub sourcesOf : Books → List (Numbered Source)
 sourcesOf b = standing (b .source) 0 32
 
-abbrev pub plantsOf : Books → List (Numbered Plant)
-plantsOf b = standing (b .plant) 0 8
+abbrev pub plantsIn : (ℕ → Option Plant) → List (Numbered PlainPlant)
+plantsIn place = standing (λ n. Option·map plainOf (place n)) 0 8
+
+abbrev pub plantsOf : Books → List (Numbered PlainPlant)
+plantsOf b = plantsIn (b .plant)
 
 -- Those of a list that pass a test.
 unfoldable pub those : {A : Type 0} → (A → Bool) → List A → List A
@@ -95,35 +98,39 @@ comparesLoss (Either S) = true
 -- ---- a site
 
 -- A plant's milligrams: its fuel lines, each rounded, and exactly.
-unfoldable pub plantMilligrams : Direction → Plant → ℕ
-plantMilligrams dir p = sum (map (roundedMilligrams dir) (linesOf p))
+unfoldable pub plantMilligrams : Direction → PlainPlant → ℕ
+plantMilligrams dir p = sum (map (roundedMilligrams dir) (p .lines))
 
-unfoldable pub exactPlant : Plant → Ratio
-exactPlant p = sumᵣ (map exactMilligrams (linesOf p))
+unfoldable pub exactPlant : PlainPlant → Ratio
+exactPlant p = sumᵣ (map exactMilligrams (p .lines))
 
 -- "each plant at S".
-unfoldable pub plantsAt : ℕ → List (Numbered Plant) → List Plant
-plantsAt S xs = map item (those (λ (x : Numbered Plant). eqb (x .item .site) S) xs)
+unfoldable pub plantsAt : ℕ → List (Numbered PlainPlant) → List PlainPlant
+plantsAt S xs = map item (those (λ (x : Numbered PlainPlant). eqb (x .item .site) S) xs)
   where
-    item : Numbered Plant → Plant
+    item : Numbered PlainPlant → PlainPlant
     item x = x .item
 
-unfoldable pub siteOf : List (Numbered Plant) → ℕ → Site
+unfoldable pub siteOf : List (Numbered PlainPlant) → ℕ → Site
 siteOf xs S =
     record {
       milligrams = λ dir. sum (map (plantMilligrams dir) (plantsAt S xs));
       exact = sumᵣ (map exactPlant (plantsAt S xs));
-      generation = sum (map (λ (p : Plant). p .generation) (plantsAt S xs));
+      generation = sum (map (λ (p : PlainPlant). p .generation) (plantsAt S xs));
     }
+
+-- The rounded captive factor of each site in a direction, or its refusal.
+abbrev pub captiveAt : Direction → List (Numbered PlainPlant) → ℕ → Outcome ℕ
+captiveAt dir plants S = atSite dir (siteOf plants S)
 
 -- ---- the figure of each source
 
 -- "for each source, by rising number: 8 .. 9 .. 10 .. 11 .. 12".
 unfoldable pub sourceFigure : Books → Source → Outcome Figure
 sourceFigure b s =
-    andThen (chosen (direction (s .side)) (b .grid) (siteOf (plantsOf b)) (consumption comparesFactor (sourcesOf b)) (s .supply)) (λ c.
+    andThen (chosen (direction (s .side)) (b .grid) (captiveAt (direction (s .side)) (plantsOf b)) (consumption comparesFactor (sourcesOf b)) (s .supply)) (λ x.
     andThen (lossOf (direction (s .side)) (consumption comparesLoss (sourcesOf b)) (s .loss)) (λ T.
-    given (figureOf (direction (s .side)) (s .energy) c T (factorOf (direction (s .side)) (b .grid) (siteOf (plantsOf b)) c))))
+    given (figureOf (direction (s .side)) (s .energy) (x .choice) T (x .factor))))
 
 -- A source with its figure; or the first refusal, which "carries the source's number".
 pub record Figured : Type 0 where

@@ -9,8 +9,8 @@ use Rattle.rounding.specs.Divided.{divided, sum}
 use lib.IntN.{ℤ}
 use Rattle.rounding.specs.declared.Direction.{Direction}
 use Rattle.rounding.specs.declared.Direction.the-variants.{Up, Down}
-use Rattle.emissions.specs.Outcome.{Outcome, refused, given, andThen}
-use Rattle.emissions.specs.Factor.{direction, chosen, factorOf}
+use Rattle.rounding.specs.Outcome.{Outcome, refused, given, andThen}
+use Rattle.emissions.specs.Factor.{direction, chosen, factorIn}
 use Rattle.emissions.specs.Loss.{lossOf}
 use Rattle.emissions.specs.Figure as figure
 use Rattle.emissions.specs.declared.Consumption.{Consumption}
@@ -18,9 +18,9 @@ use Rattle.emissions.specs.declared.Grid.{Grid}
 use Rattle.emissions.specs.declared.Side.{Side}
 use Rattle.emissions.specs.declared.Side.the-variants.{Project, Leakage, Baseline}
 use Rattle.emissions.specs.declared.Supply.{Supply}
-use Rattle.report.specs.Report.{Numbered, standing, consumption, comparesFactor, comparesLoss, plantMilligrams, siteOf, Figured, Figures, declined, figured, gramsIn, ofSide, allFit, Reply, refusedWith, reported}
+use Rattle.report.specs.Report.{Numbered, standing, plantsIn, consumption, comparesFactor, comparesLoss, plantMilligrams, captiveAt, Figured, Figures, declined, figured, gramsIn, ofSide, allFit, Reply, refusedWith, reported}
 use Rattle.report.specs.Report as report
-use Rattle.report.specs.Records.{plantPlace, sourcePlace}
+use Rattle.report.specs.Records.{PlainPlant, plainOf, plantPlace}
 use Rattle.report.specs.declared.records.Plant.{Plant}
 use Rattle.report.specs.declared.records.Source.{Source}
 use Rattle.report.specs.declared.records.PlantRecord.{PlantRecord}
@@ -37,8 +37,8 @@ use Rattle.report.specs.declared.SideReport.{SideReport}
 use Rattle.report.specs.declared.Report.{Report}
 
 -- The plants that the records show.
-abbrev pub sitePlants : List PlantRecord → List (Numbered Plant)
-sitePlants rs = standing (plantPlace rs) 0 8
+abbrev pub sitePlants : List PlantRecord → List (Numbered PlainPlant)
+sitePlants rs = plantsIn (plantPlace rs)
 
 -- What one source adds to the consumption of those that count.
 abbrev pub ofDirection : Direction → ℕ → Consumption
@@ -77,28 +77,27 @@ abbrev pub totalsOf : (ℕ → Option Source) → Totals
 totalsOf place = record { factor = consumption comparesFactor (standing place 0 32); loss = consumption comparesLoss (standing place 0 32) }
 
 -- What stands under a number adds so much to a sum over the plants at a site.
-abbrev pub generated : Plant → ℕ
+abbrev pub generated : PlainPlant → ℕ
 generated p = p .generation
 
-abbrev pub addedAt : ℕ → (Plant → ℕ) → Option Plant → ℕ
+abbrev pub addedAt : ℕ → (PlainPlant → ℕ) → Option Plant → ℕ
 addedAt S f none = 0
-addedAt S f (some p) = cond (eqb (p .site) S) (f p) 0
+addedAt S f (some p) = cond (eqb (p .site) S) (f (plainOf p)) 0
 
 -- A site's sums with what stands under one more number.
 abbrev pub siteWith : ℕ → Direction → SiteSums → Option Plant → SiteSums
 siteWith S dir s o = record { milligrams = s .milligrams + addedAt S (plantMilligrams dir) o; generation = s .generation + addedAt S generated o }
 
 -- The factor of a supply: that of the option chosen for it.
-abbrev pub factorAt : Direction → Grid → List (Numbered Plant) → Consumption → Supply → Outcome ℕ
-factorAt dir grid plants c supply =
-    andThen (chosen dir grid (siteOf plants) c supply) (λ ch. given (factorOf dir grid (siteOf plants) ch))
+abbrev pub factorAt : Direction → Grid → List (Numbered PlainPlant) → Consumption → Supply → Outcome ℕ
+factorAt dir grid plants c supply = factorIn (chosen dir grid (captiveAt dir plants) c supply)
 
 -- The figure of a source by the totals.
-abbrev pub figureAt : Grid → List (Numbered Plant) → Totals → Source → Outcome figure.Figure
+abbrev pub figureAt : Grid → List (Numbered PlainPlant) → Totals → Source → Outcome figure.Figure
 figureAt grid plants t s =
-    andThen (chosen (direction (s .side)) grid (siteOf plants) (t .factor) (s .supply)) (λ c.
+    andThen (chosen (direction (s .side)) grid (captiveAt (direction (s .side)) plants) (t .factor) (s .supply)) (λ x.
     andThen (lossOf (direction (s .side)) (t .loss) (s .loss)) (λ T.
-    given (figure.figureOf (direction (s .side)) (s .energy) c T (factorOf (direction (s .side)) grid (siteOf plants) c))))
+    given (figure.figureOf (direction (s .side)) (s .energy) (x .choice) T (x .factor))))
 
 -- What the code hands up of a figure: F, U and the grams.
 abbrev pub handed : figure.Figure → Figure

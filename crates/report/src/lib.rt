@@ -6,10 +6,10 @@ ghost use mathlib.Core.Path.{_≡_};
 ghost use mathlib.Core.Bool.{true};
 ghost use Prim.Native.Nat.{_+_, _*_, _≤_, _<_};
 ghost use Rattle.emissions.specs.Answers.{factorMeaning};
-ghost use Rattle.emissions.specs.Factor.{direction, atSite};
-ghost use Rattle.emissions.specs.Steps.{siteNamed, atNamed};
-ghost use Rattle.report.specs.Report.{comparesFactor, comparesLoss, plantMilligrams, siteOf, figuresFrom, sourcesOf, reportOf, checkedReportOf, booksOf};
-ghost use Rattle.report.specs.Records.{plantIn, sourceIn, plantIntact, sourceIntact, gridIntact, allIntact, plantPlace, sourcePlace};
+ghost use Rattle.emissions.specs.Factor.{direction, siteNamed};
+ghost use Rattle.emissions.specs.Steps.{atNamed};
+ghost use Rattle.report.specs.Report.{comparesFactor, comparesLoss, plantMilligrams, siteOf, captiveAt, figuresFrom, sourcesOf, reportOf, checkedReportOf, booksOf};
+ghost use Rattle.report.specs.Records.{plainOf, plantIn, sourceIn, plantIntact, sourceIntact, gridIntact, allIntact, plantPlace, sourcePlace};
 ghost use mathlib.Core.Option.{some};
 ghost use Rattle.report.specs.Answers.{sideMeaning, reportMeaning};
 ghost use Rattle.report.specs.Steps.{sitePlants, share, joined, Small, totalsWith, totalsOf, siteWith, figureAt, parts, figureMeaning, FigureWithin, figureRefusal, noSums, withGrams, Bounded, walkedOf, sideFrom, reductionOf, reportedOf};
@@ -19,6 +19,7 @@ use crate::records::PlantRecord;
 use crate::records::Source;
 use crate::records::SourceRecord;
 use emissions::Consumption;
+use emissions::EmissionsJudged;
 use emissions::FactorJudged;
 use emissions::Grid;
 use emissions::LossJudged;
@@ -30,9 +31,9 @@ use metering::Reading;
 use rounding::Direction;
 
 // P and B, which the default factor compares, and P' and B', which the default losses compare.
-pub struct Totals {
-    pub factor: Consumption,
-    pub loss: Consumption,
+struct Totals {
+    factor: Consumption,
+    loss: Consumption,
 }
 
 // The milligrams and the generation, in kWh, of plants at a site.
@@ -42,14 +43,14 @@ struct SiteSums {
 }
 
 // The figure of a source: its emission factor F, its energy with losses U and its grams.
-pub struct Figure {
-    pub factor: u32,
-    pub energy: u64,
-    pub grams: u64,
+struct Figure {
+    factor: u32,
+    energy: u64,
+    grams: u64,
 }
 
 // The figure, or the number of the refusal: 8 to 12.
-pub enum FigureJudged {
+enum FigureJudged {
     Refused(u8),
     Given(Figure),
 }
@@ -67,19 +68,19 @@ impl FigureJudged {
 }
 
 // A side's grams and the number of its standing sources.
-pub struct SideSum {
-    pub grams: u64,
-    pub sources: u8,
+struct SideSum {
+    grams: u64,
+    sources: u8,
 }
 
-pub struct Sums {
-    pub project: SideSum,
-    pub leakage: SideSum,
-    pub baseline: SideSum,
+struct Sums {
+    project: SideSum,
+    leakage: SideSum,
+    baseline: SideSum,
 }
 
 // All figures summed, or the first refusal with its source's number.
-pub enum Walked {
+enum Walked {
     Refused(u8, u8),
     Summed(Sums),
 }
@@ -217,7 +218,7 @@ fn totals_of(sources: [SourceRecord; 32]) -> Totals
 // A plant's milligrams: its fuel lines, each rounded.
 fn plant_milligrams(plant: Plant, direction: Direction) -> u64
     requires { ⌜ plantIntact (some plant) ≡ true ⌝ }
-    ensures { λ r. ⌜ (r ≡ plantMilligrams direction plant) × (r ≤ 12000000000000000) ⌝ }
+    ensures { λ r. ⌜ (r ≡ plantMilligrams direction (plainOf plant)) × (r ≤ 12000000000000000) ⌝ }
 {
     let lines = plant.lines;
     let count = plant.count as usize;
@@ -273,7 +274,7 @@ fn site_sums(plants: [PlantRecord; 8], site: u8, direction: Direction) -> SiteSu
 // The captive factor of a site in a direction, or refusal 9 or 10.
 fn site_factor(plants: [PlantRecord; 8], site: u8, direction: Direction) -> FactorJudged
     requires { ⌜ allIntact plantIntact (plantPlace plants) 8 ≡ true ⌝ }
-    ensures { λ r. ⌜ factorMeaning r ≡ atSite direction (siteOf (sitePlants plants) site) ⌝ }
+    ensures { λ r. ⌜ factorMeaning r ≡ captiveAt direction (sitePlants plants) site ⌝ }
 {
     let sums = site_sums(plants, site, direction);
     emissions::captive_factor(direction, sums.milligrams, sums.generation)
@@ -282,7 +283,7 @@ fn site_factor(plants: [PlantRecord; 8], site: u8, direction: Direction) -> Fact
 // The captive factor of the site that a supply names, or refusal 9 or 10; where it names none, 9.
 fn named_site_factor(plants: [PlantRecord; 8], supply: Supply, direction: Direction) -> FactorJudged
     requires { ⌜ allIntact plantIntact (plantPlace plants) 8 ≡ true ⌝ }
-    ensures { λ r. ⌜ factorMeaning r ≡ atNamed direction (siteOf (sitePlants plants)) (siteNamed supply) ⌝ }
+    ensures { λ r. ⌜ factorMeaning r ≡ atNamed (captiveAt direction (sitePlants plants)) (siteNamed supply) ⌝ }
 {
     let named = supply.site();
     let SiteNamed::At(site) = named else {
@@ -291,7 +292,8 @@ fn named_site_factor(plants: [PlantRecord; 8], supply: Supply, direction: Direct
     site_factor(plants, site, direction)
 }
 
-// The figure of a source: its factor, then its loss, then its grams.
+// The figure of a source: its factor, then its loss, then its grams. The figures of an intact source are
+// within the limits at which grams are worked out.
 fn source_figure(
     grid: Grid,
     plants: [PlantRecord; 8],
@@ -315,7 +317,10 @@ fn source_figure(
     let LossJudged::Given(loss) = open else {
         return FigureJudged::Refused(open.refusal());
     };
-    let emissions = emissions::emissions_of(direction, source.energy, loss, factor);
+    let worked = emissions::emissions_of(direction, source.energy, loss, factor);
+    let EmissionsJudged::Given(emissions) = worked else {
+        return FigureJudged::Refused(0);
+    };
     FigureJudged::Given(Figure {
         factor,
         energy: emissions.energy,
@@ -325,7 +330,7 @@ fn source_figure(
 
 impl SideSum {
     // The most grams of a side.
-    pub const GRAMS_LIMIT: u64 = 1_000_000_000_000_000;
+    const GRAMS_LIMIT: u64 = 1_000_000_000_000_000;
 
     fn empty() -> SideSum
         ensures { λ r. ⌜ r ≡ record { grams = 0; sources = 0 } ⌝ }

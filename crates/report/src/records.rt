@@ -99,11 +99,7 @@ impl PlantRecord {
     pub fn empty() -> PlantRecord
         ensures { λ r. ⌜ r ≡ noPlant ⌝ }
     {
-        let line = FuelLine {
-            quantity: 0,
-            ncv: 0,
-            factor: 0,
-        };
+        let line = FuelLine::empty();
         PlantRecord {
             stands: false,
             plant: Plant {

@@ -3,7 +3,7 @@ use borrow.Author.Needs.{needs}
 use mathlib.Core.Path.{sym, ap, _∙_}
 use Rattle.emissions.specs.Answers.{siteMeaning}
 use Rattle.emissions.specs.Steps.{atNamed}
-use Rattle.report.specs.Report.{siteOf}
+use Rattle.report.specs.Report.{captiveAt}
 use Rattle.report.specs.Steps.{sitePlants}
 use Rattle.report.proofs.named_site_factor.Statement.{statement}
 use Rattle.report.proofs.named_site_factor.Tie as tie
@@ -21,7 +21,7 @@ returns : tie.Need-returns
 returns c =
     let b = c .before .before in
     let a = b .before .args in
-    ap (atNamed (a .direction) (siteOf (sitePlants (a .plants)))) (sym (ap siteMeaning (c .enum-told .given .1)) ∙ b .site .ensures)
+    ap (atNamed (captiveAt (a .direction) (sitePlants (a .plants)))) (sym (ap siteMeaning (c .enum-told .given .1)) ∙ b .site .ensures)
 
 site-factor-requires : tie.Need-site-factor-requires
 site-factor-requires c κs = search needs
@@ -32,7 +32,7 @@ returns-2 c =
     let b = n .before .before in
     let a = b .before .args in
     c .site-factor .ensures
-    ∙ ap (atNamed (a .direction) (siteOf (sitePlants (a .plants)))) (sym (ap siteMeaning (n .named .given .1)) ∙ b .site .ensures)
+    ∙ ap (atNamed (captiveAt (a .direction) (sitePlants (a .plants)))) (sym (ap siteMeaning (n .named .given .1)) ∙ b .site .ensures)
 
 pub named-site-factor-spec : {M : Type 1} → statement M
 named-site-factor-spec =

@@ -2,7 +2,7 @@
 use borrow.Author.Needs.{needs}
 use mathlib.Core.Path.{_≡_, refl, sym, ap, _∙_}
 use mathlib.Core.Bool.{Bool, true, false}
-use Rattle.emissions.specs.Outcome.{Outcome, refused, given}
+use Rattle.rounding.specs.Outcome.{Outcome, refused, given}
 use Rattle.report.specs.Records.{plantJudged, isGiven}
 use Rattle.report.specs.Report.{Reply, ok, refusedWith, refusedAt, reported, damaged, acknowledged}
 use Rattle.report.specs.Answers.{answerMeaning}

@@ -1,18 +1,18 @@
 -- `report::plant_milligrams` meets its contract. The invariant: what is summed up and the lines that are left come to the plant's
 -- milligrams, and each of these lines is within its limits, so at most 3,000,000,000,000,000 mg. Assumes nothing.
 use borrow.Author.Needs.{needs}
-use mathlib.Core.Path.{_≡_, sym, _∙_}
+use mathlib.Core.Path.{_≡_, sym, ap, _∙_}
 use mathlib.Core.Bool.{true}
 use Prim.Native.Nat.{_+_, _-_, _*_, _≤_, zero-le}
 use native.Mathlib.Nat.{le-of-eq, le-trans}
 use native.Mathlib.Omega.{arith}
 use lib.ListN.{length, getD, length-map}
-use Rattle.fuel.specs.Fuel.{withinLimits, roundedMilligrams}
+use Rattle.fuel.specs.Fuel.{noLine, withinLimits, roundedMilligrams, milligramsMeaning}
 use Rattle.fuel.specs.declared.FuelLine.{FuelLine}
-use Rattle.fuel.proofs.Fuel.{line-bound}
+use Rattle.fuel.proofs.Fuel.{line-bound, line-refused, line-is}
 use Rattle.report.specs.Records.{linesOf, allWithinLimits}
 use Rattle.report.specs.Report.{plantMilligrams}
-use Rattle.report.proofs.Summing.{plant-limits, linesFrom, milligramsFrom, line-within, line-turn, line-end, line-refused, line-is}
+use Rattle.report.proofs.Summing.{plant-limits, linesFrom, milligramsFrom, line-within, line-turn, line-end}
 use Rattle.report.proofs.plant_milligrams.Statement.{statement}
 use Rattle.report.proofs.plant_milligrams.Tie as tie
 
@@ -31,9 +31,6 @@ room : (c : tie.Start Inv-loop μ-loop) → c .args .plant .count ≤ length (c 
 room c = le-trans (plant-limits (c .args .plant) (c .pre) .count) (le-of-eq (sym (simp length-map at (c .good .0 .1 .1 .1 .1 .0 .1 .0 .1))))
 
 -- The line in its turn.
-abbrev noLine : FuelLine
-noLine = record { quantity = 0; ncv = 0; factor = 0 }
-
 abbrev line : tie.In-loop Inv-loop μ-loop → FuelLine
 line c = getD (c .before .before .before .before .args .plant .lines) (c .before .loop .i) noLine
 
@@ -52,7 +49,7 @@ gave : (c : tie.After-known-told Inv-loop μ-loop)
 gave c =
     let b = c .before .before .before .before .before in
     line-is (b .before .before .before .before .args .direction) (line b) _ (within b .0)
-    (sym (c .before .before .before .milligrams .ensures) ∙ c .before .milligrams2 .given .1)
+    (sym (c .before .before .before .milligrams .ensures) ∙ ap milligramsMeaning (c .before .milligrams2 .given .1))
 
 bounded : (c : tie.After-known-told Inv-loop μ-loop) → c .before .milligrams2 .given .0 .0 ≤ 3000000000000000
 bounded c =
@@ -86,8 +83,8 @@ enum-told c = search needs
 returns : tie.Need-returns Inv-loop μ-loop
 returns c =
     let b = c .before .before .before .before in
-    absurd (line-refused (b .before .before .before .before .args .direction) (line b) (within b .0)
-    (sym (c .before .before .milligrams .ensures) ∙ c .enum-told .given .1))
+    absurd (line-refused (b .before .before .before .before .args .direction) (line b) _ (within b .0)
+    (sym (c .before .before .milligrams .ensures) ∙ ap milligramsMeaning (c .enum-told .given .1)))
 
 add-sum : tie.Need-add-sum Inv-loop μ-loop
 add-sum c =

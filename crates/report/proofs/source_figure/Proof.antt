@@ -1,19 +1,25 @@
 -- `report::source_figure` meets its contract: the factor, then the loss, then the grams, each by its call. Assumes nothing.
 use borrow.Author.Needs.{needs}
 use mathlib.Core.Path.{_≡_, sym, ap, _∙_}
+use mathlib.Core.Option.{some, Option·some-injective}
 use Prim.Native.Nat.{ℕ, _≤_}
 use Rattle.metering.specs.Reading.{limit}
-use Rattle.emissions.specs.Outcome.{Outcome, refused}
-use Rattle.emissions.specs.Factor.{factorLimit}
+use Rattle.rounding.specs.Outcome.{Outcome, refused}
+use Rattle.emissions.specs.Factor.{factorLimit, chosen, factorIn}
 use Rattle.emissions.specs.Loss.{lossOf}
-use Rattle.emissions.specs.Answers.{factorMeaning, factorRefusal, lossMeaning, lossRefusal}
-use Rattle.emissions.specs.Steps.{supplyFactor}
+use Rattle.emissions.specs.Answers.{factorMeaning, factorRefusal, lossMeaning, lossRefusal, emissionsMeaning}
+use Rattle.emissions.specs.Figure.{energyWithLosses, gramsOf}
 use Rattle.emissions.specs.declared.FactorJudged.{FactorJudged}
 use Rattle.emissions.specs.declared.LossJudged.{LossJudged}
-use Rattle.emissions.proofs.Supplies.{factor-by-supply, factor-limit}
-use Rattle.report.specs.Report.{siteOf}
+use Rattle.emissions.specs.declared.Emissions.{Emissions}
+use Rattle.emissions.specs.declared.EmissionsJudged.{EmissionsJudged}
+use Rattle.emissions.proofs.Supplies.{chosen-named}
+use Rattle.emissions.proofs.Figures.{emissions-within}
+use Rattle.report.specs.Report.{captiveAt}
 use Rattle.report.specs.Steps.{sitePlants, factorAt}
-use Rattle.report.proofs.Walks.{grid-sound, source-fits, open-limit, grams-limit, no-factor, no-loss, both-parts}
+use Rattle.report.proofs.Lists.{never-some}
+use Rattle.report.proofs.Summing.{source-fits}
+use Rattle.report.proofs.Walks.{open-limit, grams-limit, given-limit, no-factor, no-loss, both-parts}
 use Rattle.report.proofs.source_figure.Statement.{statement}
 use Rattle.report.proofs.source_figure.Tie as tie
 
@@ -34,8 +40,10 @@ factored : (c : tie.After-factor) (j : FactorJudged) → c .factor .result ≡ j
 factored c j e =
     let b = c .before .before in
     let a = b .before .args in
-    sym (factor-by-supply (b .direction .result) (a .grid) (siteOf (sitePlants (a .plants))) (a .totals .factor) (a .source .supply))
-    ∙ ap (λ (o : Outcome ℕ). supplyFactor (b .direction .result) (a .grid) o (a .totals .factor) (a .source .supply)) (sym (c .before .named-site-factor .ensures))
+    let dir = b .direction .result in
+    let totals = a .totals .factor in
+    ap factorIn (sym (chosen-named dir (a .grid) totals (captiveAt dir (sitePlants (a .plants))) (a .source .supply)))
+    ∙ ap (λ (o : Outcome ℕ). factorIn (chosen dir (a .grid) (λ S. o) totals (a .source .supply))) (sym (c .before .named-site-factor .ensures))
     ∙ sym (c .factor .ensures) ∙ ap factorMeaning e
 
 enum-known-judged : tie.Need-enum-known-judged
@@ -100,23 +108,47 @@ limits c =
     let fits = source-fits (a .args .source) (a .pre .2) in (
       fits .1,
       open-limit _ (a .args .totals .loss) (a .args .source .loss) _ (fits .0) (opened l _ (c .before .«open» .given .1)),
-      factor-limit _ (a .args .grid) (siteOf (sitePlants (a .args .plants))) (a .args .totals .factor) (a .args .source .supply)
-          (grid-sound (a .args .grid) (a .pre .0)) _ (factored b _ (l .before .before .judged .given .1)),
+      given-limit _ (a .args .grid) (sitePlants (a .args .plants)) (a .args .totals .factor) (a .args .source .supply) _ (a .pre .0)
+          (factored b _ (l .before .before .judged .given .1)),
     )
 
 emissions-of-requires : tie.Need-emissions-of-requires
-emissions-of-requires c κs = limits c
+emissions-of-requires c κs = search needs
 
-returns-3 : tie.Need-returns-3
-returns-3 c =
-    let l = c .before .before .before .before in
+-- So the grams are worked out.
+worked : (c : tie.After-emissions-of) (j : EmissionsJudged) → c .emissions-of .result ≡ j
+    → let k = c .before in
+    let l = k .before .before .before in
     let b = l .before .before .before .before in
     let a = b .before .before .before .args in
-    let h = limits (c .before) in (
+    let dir = b .before .before .direction .result in
+    let U = energyWithLosses dir (a .source .energy) (k .before .«open» .given .0 .0) in
+    emissionsMeaning j ≡ some (record { energy = U; grams = gramsOf dir U (k .before .before .before .before .before .judged .given .0 .0) })
+worked c j e =
+    let h = limits (c .before) in
+    sym (ap emissionsMeaning e) ∙ c .emissions-of .ensures ∙ emissions-within _ _ _ _ (h .0) (h .1) (h .2)
+
+enum-known-worked : tie.Need-enum-known-worked
+enum-known-worked c = search needs
+
+enum-told-3 : tie.Need-enum-told-3
+enum-told-3 c = search needs
+
+returns-3 : tie.Need-returns-3
+returns-3 c = absurd (never-some (worked (c .before .before) _ (c .enum-told3 .given .1)))
+
+returns-4 : tie.Need-returns-4
+returns-4 c =
+    let w = c .before .before .before in
+    let l = w .before .before .before .before in
+    let b = l .before .before .before .before in
+    let a = b .before .before .before .args in
+    let h = limits (w .before) in
+    let e = Option·some-injective _ _ (worked w _ (c .before .worked .given .1)) in (
       both-parts (a .grid) (sitePlants (a .plants)) (a .totals) (a .source) _ (b .before .before .direction .ensures) _
           (factored b _ (l .before .before .judged .given .1)) _ _ _
-          (opened l _ (c .before .before .«open» .given .1)) (c .emissions-of .ensures .0) (c .emissions-of .ensures .1),
-      rw (c .emissions-of .ensures .1) (grams-limit _ _ _ _ (h .0) (h .1) (h .2)),
+          (opened l _ (w .before .before .«open» .given .1)) (ap (λ (x : Emissions). x .energy) e) (ap (λ (x : Emissions). x .grams) e),
+      rw (ap (λ (x : Emissions). x .grams) e) (grams-limit _ _ _ _ (h .0) (h .1) (h .2)),
     )
 
 pub source-figure-spec : {M : Type 1} → statement M
@@ -136,4 +168,7 @@ source-figure-spec =
     refusal-requires-2
     returns-2
     emissions-of-requires
-    returns-3)
+    enum-known-worked
+    enum-told-3
+    returns-3
+    returns-4)

@@ -13,7 +13,8 @@ use Rattle.report.specs.Records.{noSource, sourceIntact}
 use Rattle.report.specs.Steps.{parts, figureMeaning, FigureWithin, figureRefusal, Bounded, walkedOf}
 use Rattle.report.specs.declared.records.Source.{Source}
 use Rattle.report.specs.declared.Walked.the-variants.{Refused}
-use Rattle.report.proofs.Walks.{resumed, resumed-first, resumed-last, left, left-none, skips, goes-on, stops, figure-is, intact-at, none-bounded, bounded-widen, bounded-more}
+use Rattle.report.proofs.Summing.{intact-at}
+use Rattle.report.proofs.Walks.{resumed, resumed-first, resumed-last, left, left-none, skips, goes-on, stops, figure-is, none-bounded, bounded-widen, bounded-more}
 use Rattle.report.proofs.walk.Statement.{statement}
 use Rattle.report.proofs.walk.Tie as tie
 
@@ -62,7 +63,7 @@ source-figure-requires c κs =
       pre .0,
       pre .1,
       subst (λ (o : Option Source). sourceIntact o ≡ true) (stands c)
-          (intact-at sourceIntact (books l .source) 32 (l .loop .i) (c .before .before .before .loop-test .taken) (pre .2)),
+          (intact-at sourceIntact (books l .source) 32 (l .loop .i) (pre .2) (c .before .before .before .loop-test .taken)),
     )
 
 -- The call gave its figure.

@@ -2,12 +2,12 @@
 use borrow.Author.Needs.{needs}
 use Prim.Native.Nat.{_≤_}
 use Rattle.metering.specs.Reading.{limit}
-use Rattle.report.proofs.Summing.{energy-within, share-small}
+use Rattle.report.proofs.Summing.{source-fits, share-small}
 use Rattle.report.proofs.with_source.Statement.{statement}
 use Rattle.report.proofs.with_source.Tie as tie
 
 within : (c : tie.Then1) → c .before .args .held .source .energy ≤ limit
-within c = energy-within (c .before .args .held .source) (rw (c .if1 .taken) at (c .before .pre .2))
+within c = source-fits (c .before .args .held .source) (rw (c .if1 .taken) at (c .before .pre .2)) .1
 
 compares-factor-requires : tie.Need-compares-factor-requires
 compares-factor-requires c κs = search needs

@@ -3,7 +3,7 @@ use borrow.Author.Needs.{needs}
 use mathlib.Core.Path.{_≡_, sym, ap, _∙_}
 use Prim.Native.Nat.{_≤_}
 use native.Mathlib.Omega.{arith}
-use Rattle.emissions.specs.Outcome.{given}
+use Rattle.rounding.specs.Outcome.{given}
 use Rattle.report.specs.Records.{plantJudged}
 use Rattle.ledger.specs.Standing.{answer}
 use Rattle.ledger.specs.Operations.{step, reply}

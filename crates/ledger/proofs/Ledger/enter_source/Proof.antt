@@ -2,7 +2,7 @@
 use borrow.Author.Needs.{needs}
 use mathlib.Core.Path.{_≡_, sym, ap, _∙_}
 use native.Mathlib.Omega.{arith}
-use Rattle.emissions.specs.Outcome.{given}
+use Rattle.rounding.specs.Outcome.{given}
 use Rattle.ledger.specs.Judging.{sourceJudged}
 use Rattle.report.specs.Report.{acknowledged}
 use Rattle.ledger.specs.Standing.{answer}

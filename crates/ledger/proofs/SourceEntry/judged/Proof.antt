@@ -8,7 +8,7 @@ use Rattle.metering.specs.declared.MetersJudged.{MetersJudged}
 use Rattle.metering.specs.declared.MetersJudged.the-variants as metersJudged
 use Rattle.metering.specs.declared.EnergyJudged.{EnergyJudged}
 use Rattle.metering.specs.declared.EnergyJudged.the-variants as energyJudged
-use Rattle.emissions.specs.Outcome.{refused, refuseUnless}
+use Rattle.rounding.specs.Outcome.{refused, refuseUnless}
 use Rattle.ledger.specs.Judging.{sourceJudged}
 use Rattle.report.proofs.Judged.{tested}
 use Rattle.ledger.proofs.Judged.{settled, summed, source-number, source-site, source-loss, source-sums}

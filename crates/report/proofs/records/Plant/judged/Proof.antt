@@ -2,7 +2,7 @@
 use borrow.Author.Needs.{needs}
 use mathlib.Core.Path.{_≡_, sym, _∙_}
 use mathlib.Core.Bool.{Bool, true, false}
-use Rattle.emissions.specs.Outcome.{given, refuseUnless}
+use Rattle.rounding.specs.Outcome.{given, refuseUnless}
 use Rattle.report.specs.Records.{plantJudged}
 use Rattle.report.proofs.Judged.{plant-number, plant-site, plant-count, plant-generation, plant-lines}
 use Rattle.report.proofs.records.Plant.judged.Statement.{statement}

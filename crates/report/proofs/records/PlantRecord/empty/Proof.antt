@@ -1,12 +1,15 @@
 -- `report::records::PlantRecord::empty` meets its contract: it is the empty record. Assumes nothing.
-use mathlib.Core.Path.{refl}
+use borrow.Author.Needs.{needs}
 use Rattle.report.specs.Records.{noPlant}
 use Rattle.report.proofs.records.PlantRecord.empty.Statement.{statement}
 use Rattle.report.proofs.records.PlantRecord.empty.Tie as tie
 
+empty-requires : tie.Need-empty-requires
+empty-requires c κs = search needs
+
 returns : tie.Need-returns
 unfolding noPlant
-returns c = refl
+returns c = rw (c .empty .ensures)
 
 pub empty-spec : {M : Type 1} → statement M
-empty-spec = tie.close (tie.spec returns)
+empty-spec = tie.close (tie.spec empty-requires returns)
