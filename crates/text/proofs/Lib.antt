@@ -2,6 +2,7 @@ pub mod Digits
 pub mod Steps
 pub mod Words
 pub mod Buffer
+pub mod Puts
 pub mod Decimals
 pub mod Signed
 pub mod Registers
