@@ -1,7 +1,7 @@
 -- A line does the same in the box's fields as with its numbers as written. Assumes nothing.
 use mathlib.Core.Path.{_≡_, refl}
 use mathlib.Core.List.{List}
-use mathlib.Core.Option.{Option, none, some}
+use mathlib.Core.Option.{Option, none, some, Option·map}
 use Prim.Native.Nat.{ℕ, _<_, _≤_}
 use lib.ListN.{length}
 use borrow.Author.Tests.{le-leb, lt-leb}
@@ -9,17 +9,16 @@ use Rattle.ledger.specs.Standing.{Call}
 use Rattle.ledger.specs.declared.Ledger.{Ledger}
 use Rattle.forms.specs.Form.{Form}
 use Rattle.forms.specs.Reading.{formIn, lineForm}
-use Rattle.forms.specs.Calls.{callOf, mapped, lineCall}
-use Rattle.forms.specs.Steps.{fittedCall}
+use Rattle.forms.specs.Calls.{callOf, lineCall, fittedCall}
 use Rattle.forms.proofs.Fitted.{fitted-steps, fitted-replies}
-use Rattle.answers.specs.Steps.{lineStep, lineReply}
+use Rattle.answers.specs.Input.{lineStep, lineReply}
 
 module _ (l : Ledger) where
-  steps : (o : Option Form) → lineStep l (mapped fittedCall o) ≡ lineStep l (mapped callOf o)
+  steps : (o : Option Form) → lineStep l (Option·map fittedCall o) ≡ lineStep l (Option·map callOf o)
   steps none = refl
   steps (some f) = fitted-steps l f
 
-  replies : (o : Option Form) → lineReply l (mapped fittedCall o) ≡ lineReply l (mapped callOf o)
+  replies : (o : Option Form) → lineReply l (Option·map fittedCall o) ≡ lineReply l (Option·map callOf o)
   replies none = refl
   replies (some f) = fitted-replies l f
 
@@ -29,8 +28,8 @@ unfolding lineCall lineForm
 long-line line h = rw (lt-leb (length line) 256 h)
 
 -- What is done for a line that was read is what the line asks for.
-module _ (l : Ledger) (line : List ℕ) (h : length line ≤ 256) {c : Option Call} (e : c ≡ mapped fittedCall (formIn line)) where
-  called : lineCall line ≡ mapped callOf (formIn line)
+module _ (l : Ledger) (line : List ℕ) (h : length line ≤ 256) {c : Option Call} (e : c ≡ Option·map fittedCall (formIn line)) where
+  called : lineCall line ≡ Option·map callOf (formIn line)
   unfolding lineCall lineForm
   called = rw (le-leb (length line) 256 h)
 

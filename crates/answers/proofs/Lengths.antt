@@ -3,7 +3,7 @@
 use mathlib.Core.Path.{_≡_, refl, ap, _∙_}
 use mathlib.Core.Bool.{Bool, true, false, cond}
 use mathlib.Core.List.{List, [], _∷_, _++_}
-use mathlib.Core.Option.{Option, none, some}
+use mathlib.Core.Option.{Option, none, some, Option·map}
 use mathlib.Core.Logic.{inl, inr}
 use Prim.Native.Nat.{ℕ, zero, suc, _+_, _*_, _-_, _<_, _≤_}
 use native.Mathlib.Omega.{arith}
@@ -15,7 +15,9 @@ use lib.Seq.{length-take-le}
 use borrow.Author.Tests.{leb-true}
 use Rattle.text.specs.Word.{bytes}
 use Rattle.text.specs.Decimal.{decimal, signedDecimal}
+use Rattle.text.specs.Parts.{joinedText}
 use Rattle.text.proofs.Decimals.{length-at-most}
+use Rattle.text.proofs.Puts.{joined-more, joined-none}
 use Rattle.report.specs.Report.{SideReport, Report, Reply, ok, refusedWith, refusedAt, reported, damaged}
 use Rattle.ledger.specs.Standing as call
 use Rattle.ledger.specs.Operations.{newLedger, reply}
@@ -23,23 +25,15 @@ use Rattle.ledger.specs.declared.Ledger.{Ledger}
 use Rattle.ledger.proofs.Bounds.{SmallSide, SmallReport, Small, Plain, reply-plain, reply-small}
 use Rattle.forms.specs.Form.{Form, grid, plant, source, dropSource, dropPlant, report, openText}
 use Rattle.forms.specs.Reading.{lineForm}
-use Rattle.forms.specs.Calls.{callOf, mapped, lineCall}
+use Rattle.forms.specs.Calls.{callOf, lineCall}
 use Rattle.forms.proofs.Texts.{line-stands}
-use Rattle.answers.specs.Answers.{joinedText, sideParts, reportParts, replyParts, replyText}
-use Rattle.answers.specs.Input.{output, needed}
-use Rattle.answers.specs.Steps.{lineStep, lineReply, lineOf}
+use Rattle.answers.specs.Answers.{sideParts, reportParts, replyParts, replyText}
+use Rattle.answers.specs.Input.{lineStep, lineReply, output, needed}
+use Rattle.answers.specs.Steps.{firstLine}
 use Rattle.answers.proofs.Lines.{line-fits}
 use Rattle.answers.proofs.Replies.{textFrom, text-at, text-past, output-line-by-line}
 
 -- ---- the parts
-
-joined-more : (w : List ℕ) (ws : List (List ℕ)) → length (joinedText (w ∷ ws)) ≡ length w + length (joinedText ws)
-unfolding joinedText
-joined-more w ws = length-append w (joinedText ws)
-
-joined-none : length (joinedText []) ≡ 0
-unfolding joinedText
-joined-none = refl
 
 two-digits : (n : ℕ) → n < 100 → length (decimal n) ≤ 2
 two-digits n h = length-at-most 1 n (omega arith)
@@ -138,7 +132,7 @@ module _ (l : Ledger) (line : List ℕ) (k : ℕ) (long : length line ≤ k) (ab
   unfolding lineCall
   answer-fits = go (lineForm line) refl
     where
-      go : (o : Option Form) → lineForm line ≡ o → length (replyText (lineReply l (mapped callOf o))) ≤ 18 * k
+      go : (o : Option Form) → lineForm line ≡ o → length (replyText (lineReply l (Option·map callOf o))) ≤ 18 * k
       go none e = omega (arith, reply-length (refusedWith 14) (omega arith))
       go (some f) e = form-fits f e
 
@@ -146,7 +140,7 @@ module _ (l : Ledger) (line : List ℕ) (k : ℕ) (long : length line ≤ k) (ab
 
 module _ (input : List ℕ) where
   -- The answer to the line at a place, and those to the lines after it.
-  text-more : (at end : ℕ) (l : Ledger) → at < length input → end ≡ at + length (lineOf (drop at input))
+  text-more : (at end : ℕ) (l : Ledger) → at < length input → end ≡ at + length (firstLine (drop at input))
       → ((m : Ledger) → length (textFrom m input (end + 1)) ≤ 18 * (length input - (end + 1)))
       → length (textFrom l input at) ≤ 18 * (length input - at)
   text-more at end l h e rest =
@@ -171,7 +165,7 @@ module _ (input : List ℕ) where
       go : ((end : ℕ) → at ≤ end → (m : Ledger) → length (textFrom m input (end + 1)) ≤ 18 * (length input - (end + 1)))
           → Dec (at < length input) → length (textFrom l input at) ≤ 18 * (length input - at)
       go rest (yes k) =
-          let end : ℕ = at + length (lineOf (drop at input)) in
+          let end : ℕ = at + length (firstLine (drop at input)) in
           text-more at end l k refl (rest end (omega arith))
       go rest (no k) = rw (text-past l input at (omega arith)) (omega arith)
 

@@ -1,4 +1,3 @@
-pub mod Puts
 pub mod Lines
 pub mod Forms
 pub mod Replies

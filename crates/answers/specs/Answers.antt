@@ -1,14 +1,21 @@
--- The text of the answers (document 01, "The text the program tally reads": "Each line prints .."), part by part.
+-- What the answers to a line mean, and their text (document 01, "The text the program tally reads": "Each line prints .."), part by part.
 use Prim.Native.Nat.{ℕ}
 use mathlib.Core.List.{List, [], _∷_, _++_}
 use Rattle.text.specs.Word.{bytes}
 use Rattle.text.specs.Decimal.{decimal, signedDecimal}
+use Rattle.text.specs.Parts.{joinedText}
 use Rattle.report.specs.Report.{SideReport, Report, Reply, ok, refusedWith, refusedAt, reported, damaged}
+use Rattle.report.specs.Answers.{reportIn}
+use Rattle.answers.specs.declared.line.Reply as line
+use Rattle.answers.specs.declared.line.Reply.the-variants as answer
 
--- Texts one after the other.
-unfoldable pub joinedText : List (List ℕ) → List ℕ
-joinedText [] = []
-joinedText (w ∷ ws) = w ++ joinedText ws
+-- The paper's number and values of each case of an answer of the code.
+abbrev pub replyMeaning : line.Reply → Reply
+replyMeaning answer.Accepted = ok
+replyMeaning (answer.Refused n) = refusedWith n
+replyMeaning (answer.RefusedAt n k) = refusedAt n k
+replyMeaning (answer.Given r) = reported (reportIn r)
+replyMeaning answer.Damaged = damaged
 
 -- "side, tonnes, grams, sources".
 abbrev pub sideParts : List ℕ → SideReport → List (List ℕ)

@@ -11,6 +11,7 @@ use Rattle.text.specs.Buffer.{putAt}
 use Rattle.report.specs.Report.{Reply, refusedWith}
 use Rattle.ledger.specs.Standing.{Call}
 use Rattle.ledger.specs.Operations.{newLedger, step, reply}
+use Rattle.ledger.specs.declared.Ledger.{Ledger}
 use Rattle.forms.specs.Calls.{lineCall}
 use Rattle.answers.specs.Answers.{replyText}
 use Rattle.answers.specs.declared.Written.{Written}
@@ -26,33 +27,28 @@ unfoldable pub lines : List ℕ → List (List ℕ)
 lines [] = []
 lines (b ∷ t) = cond (eqb b 10) ([] ∷ lines t) (onto b (lines t))
 
--- ---- the answers: to the lines that are calls, those of the list of calls; to any other line, refusal 14
+-- ---- the answers
 
-unfoldable pub callsAmong : List (Option Call) → List Call
-callsAmong [] = []
-callsAmong (none ∷ rest) = callsAmong rest
-callsAmong (some c ∷ rest) = c ∷ callsAmong rest
+-- A line that is a call leaves and answers what the call does. Any other is refused, "14 not one of the forms below, ..", and alters nothing.
+abbrev pub lineStep : Ledger → Option Call → Ledger
+lineStep l none = l
+lineStep l (some c) = step l c
 
-unfoldable pub lineReplies : List (Option Call) → List Reply → List Reply
-lineReplies [] rs = []
-lineReplies (none ∷ rest) rs = refusedWith 14 ∷ lineReplies rest rs
-lineReplies (some c ∷ rest) [] = []
-lineReplies (some c ∷ rest) (r ∷ rs) = r ∷ lineReplies rest rs
+abbrev pub lineReply : Ledger → Option Call → Reply
+lineReply l none = refusedWith 14
+lineReply l (some c) = reply l c
 
--- The calls of an input, each of one line.
+-- The calls of an input, one for each line that is a form.
 abbrev pub lineCalls : List ℕ → List (Option Call)
 lineCalls input = map lineCall (lines input)
 
-abbrev pub inputCalls : List ℕ → List Call
-inputCalls input = callsAmong (lineCalls input)
+-- The answers to the lines, from a new ledger.
+abbrev pub inputReplies : List ℕ → List Reply
+inputReplies input = answers lineStep lineReply newLedger (lineCalls input)
 
 unfoldable pub repliesText : List Reply → List ℕ
 repliesText [] = []
 repliesText (r ∷ rs) = replyText r ++ repliesText rs
-
--- The answers to the lines, from a new ledger.
-abbrev pub inputReplies : List ℕ → List Reply
-inputReplies input = lineReplies (lineCalls input) (answers step reply newLedger (inputCalls input))
 
 -- "Input above 65,536 bytes prints only `refused 14`."
 unfoldable pub output : List ℕ → List ℕ

@@ -7,7 +7,7 @@ ghost use Prim.Native.Nat.{_+_, _*_, _≤_};
 ghost use lib.ListN.{length, drop};
 ghost use Rattle.text.specs.Buffer.{putAt};
 ghost use Rattle.answers.specs.Input.{output, written, bufferAfter};
-ghost use Rattle.answers.specs.Steps.{lineOf};
+ghost use Rattle.answers.specs.Steps.{firstLine};
 use ledger::Ledger;
 
 // How many bytes were written, or that the buffer might be too short.
@@ -19,7 +19,7 @@ pub enum Written {
 // Where the line that begins at a place ends: at its LF, or at the end.
 fn line_end(input: &[u8], at: usize) -> usize
     requires { ⌜ at ≤ length (now input) ⌝ }
-    ensures { λ r. ⌜ r ≡ at + length (lineOf (drop at (now (input .entry)))) ⌝ }
+    ensures { λ r. ⌜ r ≡ at + length (firstLine (drop at (now (input .entry)))) ⌝ }
 {
     let mut i = at;
     while i < input.len() {

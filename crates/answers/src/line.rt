@@ -1,14 +1,14 @@
 // What a line does to the ledger, and the text of its answer (document 01, "The text the program tally
 // reads": "Each line prints ..").
 ghost use mathlib.Core.Path.{_≡_};
+ghost use Rattle.text.specs.Parts.{placed, putParts};
 ghost use Rattle.report.specs.Answers.{answerMeaning, sideMeaning, reportIn, reportMeaning};
 ghost use Rattle.report.specs.Report.{refusedWith, refusedAt};
 ghost use Rattle.ledger.specs.Standing.{report};
 ghost use Rattle.ledger.specs.Operations.{reply};
-ghost use Rattle.forms.specs.Calls.{lineCall};
-ghost use Rattle.answers.specs.Answers.{sideParts, reportParts, replyParts};
-ghost use Rattle.forms.specs.Steps.{callIn};
-ghost use Rattle.answers.specs.Steps.{lineStep, lineReply, replyMeaning, placed, putParts};
+ghost use Rattle.forms.specs.Calls.{lineCall, callIn};
+ghost use Rattle.answers.specs.Answers.{replyMeaning, sideParts, reportParts, replyParts};
+ghost use Rattle.answers.specs.Input.{lineStep, lineReply};
 use forms::Kind;
 use forms::Line;
 use ledger::Entered;

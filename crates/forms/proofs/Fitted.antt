@@ -14,9 +14,9 @@ use Rattle.metering.specs.Energy.{judgedReadings, judgedMeters}
 use Rattle.metering.specs.declared.Meter.{Meter}
 use Rattle.metering.specs.declared.MetersJudged.the-variants as metersJudged
 use Rattle.rounding.specs.declared.Direction.{Direction}
-use Rattle.fuel.specs.Fuel.{withinLimits}
+use Rattle.fuel.specs.Fuel.{noLine, withinLimits}
 use Rattle.fuel.specs.declared.FuelLine.{FuelLine}
-use Rattle.emissions.specs.Outcome.{Outcome, refused, given, refuseUnless}
+use Rattle.rounding.specs.Outcome.{Outcome, refused, given, refuseUnless}
 use Rattle.emissions.specs.Factor.{factorLimit, direction}
 use Rattle.emissions.specs.declared.GridEntry.{GridEntry}
 use Rattle.emissions.specs.declared.Supply.{Supply}
@@ -33,7 +33,7 @@ use Rattle.ledger.specs.declared.SourceEntry.{SourceEntry}
 use Rattle.ledger.specs.declared.Ledger.{Ledger}
 use Rattle.ledger.proofs.Entries.{plant-facts, source-facts, drop-facts}
 use Rattle.forms.specs.Form.{Form, grid, plant, source, dropSource, dropPlant, report}
-use Rattle.forms.specs.Calls.{noLine, fourOf, callOf, atMost, byteField, fittedSupply, fittedLoss, fittedLine, fittedPlant, fittedSource, fitted}
+use Rattle.forms.specs.Calls.{fourOf, callOf, atMost, byteField, fittedSupply, fittedLoss, fittedLine, fittedPlant, fittedSource, fitted}
 
 -- ---- one number
 

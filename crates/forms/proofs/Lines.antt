@@ -1,9 +1,9 @@
 -- How a line's opening, its close and its call go together. Assumes nothing.
 use Prim.Native.Nat.{ℕ, _-_, _≤_, _<_}
-use mathlib.Core.Path.{_≡_, refl, ap, _∙_}
-use mathlib.Core.Bool.{Bool, true, false, cond}
+use mathlib.Core.Path.{_≡_, refl, sym, ap, _∙_}
+use mathlib.Core.Bool.{Bool, true, false, cond, false≢true}
 use mathlib.Core.List.{List, [], _∷_}
-use mathlib.Core.Option.{Option, none, some, Option·some-injective}
+use mathlib.Core.Option.{Option, none, some, Option·some-injective, Option·map}
 use native.Mathlib.Nat.{add-zero}
 use native.Mathlib.Omega.{arith}
 use lib.Dec.{eqb}
@@ -14,12 +14,13 @@ use Rattle.metering.specs.declared.Meter.{Meter}
 use Rattle.emissions.specs.declared.Side.{Side}
 use Rattle.emissions.specs.declared.Supply.{Supply}
 use Rattle.emissions.specs.declared.Loss.{Loss}
-use Rattle.ledger.specs.Standing.{Call, enterSource}
+use Rattle.ledger.specs.Standing.{Call, enterGrid, enterPlant, enterSource}
+use Rattle.ledger.specs.Standing as call
 use Rattle.forms.specs.Form.{Form}
 use Rattle.forms.specs.Reading.{orElse, openingIn, isClosing, formIn}
-use Rattle.forms.specs.Calls.{mapped}
+use Rattle.forms.specs.Calls.{fittedCall, callIn, plainLine, lineOf}
 use Rattle.ledger.specs.Judging.{isThere}
-use Rattle.forms.specs.Steps.{found, callIn, withRest, openingMeaning, fittedCall}
+use Rattle.forms.specs.Steps.{found, withRest, openingMeaning}
 use Rattle.forms.specs.declared.Line.{Line}
 
 -- ---- the bracket that closes a form
@@ -46,6 +47,16 @@ closes-long s at h = long-open (drop at s) (omega (arith, length-drop at s))
 pub closes-last : (s : List ℕ) (at : ℕ) → length s - at ≡ 1 → isClosing (drop at s) ≡ eqb (getD s at 0) 41
 closes-last s at h = one-closes (drop at s) (length-drop at s ∙ h) ∙ rw (getD-drop at s 0 0, add-zero)
 
+closing-one : (t : List ℕ) → true ≡ isClosing t → length t ≡ 1
+unfolding isClosing
+closing-one [] e = absurd (false≢true (sym e))
+closing-one (a ∷ []) e = refl
+closing-one (a ∷ b ∷ t) e = absurd (false≢true (sym e))
+
+-- The bracket stands at the last byte.
+closing-place : (s : List ℕ) (at : ℕ) → true ≡ isClosing (drop at s) → at ≡ length s - 1
+closing-place s at e = omega (arith, closing-one (drop at s) e, length-drop at s)
+
 -- ---- a part that was read as its fitted value
 
 -- A part was read, and b is its fitted value.
@@ -71,6 +82,12 @@ pub source-call : (N : ℕ) (side : Side) (meters : List Meter) (count : ℕ) (r
     (some (record { value = enterSource N (record { side = side; supply = v; loss = m; meters = meters; count = count }); rest = rest }))
 source-call N side meters count rest u v l m e q = rw (e, q)
 
+-- Where nothing was read, the line is no form.
+pub nothing-read : (s : List ℕ) (a : Option (Read Form)) {l : Line} → l ≡ lineOf none 0 → a ≡ none
+    → (openingMeaning s l ≡ mapRead fittedCall a) × (l ≡ lineOf (callIn l) (l .next))
+unfolding lineOf plainLine
+nothing-read s a e q = rw (e, q) (refl, refl)
+
 -- ---- what a line opens with, and its call
 
 module _ (s : List ℕ) (l : Line) (a b : Option (Read Form)) (e : openingMeaning s l ≡ mapRead fittedCall a) where
@@ -94,13 +111,13 @@ module _ (s : List ℕ) (l : Line) (a b : Option (Read Form)) (e : openingMeanin
       go none (some r) q k = let z : _≡_ {A = ℕ} 0 1 = cc in absurd (omega arith)
 
 -- The call of a line is that of its opening, where the bracket is all that is left.
-pub closed : (s : List ℕ) (l : Line) (t : Bool) → openingMeaning s l ≡ mapRead fittedCall (openingIn s) → t ≡ isClosing (drop (l .next) s)
-    → cond t (callIn l) none ≡ mapped fittedCall (formIn s)
+closed : (s : List ℕ) (l : Line) (t : Bool) → openingMeaning s l ≡ mapRead fittedCall (openingIn s) → t ≡ isClosing (drop (l .next) s)
+    → cond t (callIn l) none ≡ Option·map fittedCall (formIn s)
 unfolding formIn
 closed s l t e h = go (callIn l) (openingIn s) e t h
   where
     go : (o : Option Call) (a : Option (Read Form)) → withRest s o (l .next) ≡ mapRead fittedCall a → (t : Bool) → t ≡ isClosing (drop (l .next) s)
-        → cond t o none ≡ mapped fittedCall (onRead a (λ f rest. cond (isClosing rest) (some f) none))
+        → cond t o none ≡ Option·map fittedCall (onRead a (λ f rest. cond (isClosing rest) (some f) none))
     go none none q true k = refl
     go none none q false k = refl
     go none (some r) q t k = let z : _≡_ {A = ℕ} 0 1 = cc in absurd (omega arith)
@@ -111,6 +128,33 @@ closed s l t e h = go (callIn l) (openingIn s) e t h
         let y : drop (l .next) s ≡ r .rest = ap (λ (a : Read Call). a .rest) u in
         rw (k, y, x) (either (isClosing (r .rest)) (r .value))
       where
-        either : (b : Bool) (v : Form) → cond b (some (fittedCall v)) none ≡ mapped fittedCall (cond b (some v) none)
+        either : (b : Bool) (v : Form) → cond b (some (fittedCall v)) none ≡ Option·map fittedCall (cond b (some v) none)
         either true v = refl
         either false v = refl
+
+-- ---- the line that holds a call
+
+pub call-in-line : (o : Option Call) (next : ℕ) → callIn (lineOf o next) ≡ o
+unfolding lineOf plainLine
+call-in-line none next = refl
+call-in-line (some (enterGrid g)) next = refl
+call-in-line (some (enterPlant n p)) next = refl
+call-in-line (some (enterSource n e)) next = refl
+call-in-line (some (call.dropPlant n)) next = refl
+call-in-line (some (call.dropSource n)) next = refl
+call-in-line (some call.report) next = refl
+
+module _ (s : List ℕ) where
+  -- A line that was opened and closes holds the call of its form.
+  pub closed-line : (l : Line) → openingMeaning s l ≡ mapRead fittedCall (openingIn s) → l ≡ lineOf (callIn l) (l .next)
+      → true ≡ isClosing (drop (l .next) s) → l ≡ lineOf (Option·map fittedCall (formIn s)) (length s - 1)
+  closed-line l e p k =
+      p
+      ∙ ap (λ (o : Option Call). lineOf o (l .next)) (closed s l true e k)
+      ∙ ap (lineOf (Option·map fittedCall (formIn s))) (closing-place s (l .next) k)
+
+  -- One that does not close is no form.
+  pub open-line : (l : Line) → openingMeaning s l ≡ mapRead fittedCall (openingIn s) → false ≡ isClosing (drop (l .next) s)
+      → lineOf none 0 ≡ lineOf (Option·map fittedCall (formIn s)) (length s - 1)
+  unfolding lineOf
+  open-line l e k = rw (← (closed s l false e k))

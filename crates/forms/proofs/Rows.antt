@@ -1,6 +1,6 @@
 -- A table tried row by row, and the fields that numbers are put in. Assumes nothing.
 use Prim.Native.Nat.{ℕ, _≤_, _<_}
-use mathlib.Core.Path.{_≡_, refl, sym, ap, _∙_}
+use mathlib.Core.Path.{_≡_, refl}
 use mathlib.Core.Bool.{Bool, true, false, cond}
 use mathlib.Core.List.{List, [], _∷_}
 use mathlib.Core.Option.{none}
@@ -8,11 +8,11 @@ use native.Mathlib.Omega.{arith}
 use lib.Dec.{leb}
 use lib.ListN.{drop}
 use borrow.Author.Tests.{le-leb, lt-leb, leb-true}
-use Rattle.text.specs.Template.{placesOf, Writable, numbersOf, templateIn, matchMeaning}
+use Rattle.text.specs.Template.{placesOf, Writable, numbersOf, templateAt}
 use Rattle.text.specs.declared.Numbers.{Numbers}
 use Rattle.text.specs.declared.Match.{Match}
 use Rattle.text.specs.declared.Match.the-variants as match
-use Rattle.text.proofs.Templates.{template-stands}
+use Rattle.text.proofs.Templates.{template-stands, template-read}
 use Rattle.forms.specs.Reading.{Row, oneOf}
 use Rattle.forms.specs.Calls.{atMost, wordField}
 use Rattle.forms.specs.Steps.{found}
@@ -23,16 +23,16 @@ use Rattle.forms.specs.Steps.{found}
 abbrev pub Left : {A : Type 0} → List (Row A) → ℕ → List ℕ → Type 0
 Left rows tried t = oneOf rows t ≡ oneOf (drop tried rows) t
 
-module _ {A : Type 0} (r : Row A) (rows : List (Row A)) (s t : List ℕ) (m : Match) (e : matchMeaning s m ≡ templateIn (r .template) t) where
+module _ {A : Type 0} (r : Row A) (rows : List (Row A)) (s : List ℕ) (at : ℕ) (m : Match) (e : m ≡ templateAt (r .template) s at) where
   -- A row that is not read leaves the text to the rows after it.
-  pub row-passed : m ≡ match.NoMatch → oneOf (r ∷ rows) t ≡ oneOf rows t
+  pub row-passed : m ≡ match.NoMatch → oneOf (r ∷ rows) (drop at s) ≡ oneOf rows (drop at s)
   unfolding oneOf
-  row-passed k = rw (← e, k)
+  row-passed k = rw (template-read (r .template) s at e k)
 
   -- A row that is read is what the table reads.
-  pub row-read : (n : Numbers) (next : ℕ) → m ≡ match.Match n next → oneOf (r ∷ rows) t ≡ found s (r .value n) next
+  pub row-read : (n : Numbers) (next : ℕ) → m ≡ match.Match n next → oneOf (r ∷ rows) (drop at s) ≡ found s (r .value n) next
   unfolding oneOf
-  row-read n next k = rw (← e, k)
+  row-read n next k = rw (template-read (r .template) s at e k)
 
 pub no-row : {A : Type 0} (t : List ℕ) → oneOf {A = A} [] t ≡ none
 unfolding oneOf
@@ -54,10 +54,10 @@ at-most-fits limit n = go (leb n limit) refl
     go false e = omega arith
 
 -- Two registers that are read fit their fields: these hold them as they are.
-pub registers-fit : (w s t : List ℕ) (m : Match) → matchMeaning s m ≡ templateIn w t → (n : Numbers) (next : ℕ) → m ≡ match.Match n next
+pub registers-fit : (w s : List ℕ) (at : ℕ) (m : Match) → m ≡ templateAt w s at → (n : Numbers) (next : ℕ) → m ≡ match.Match n next
     → placesOf w ≡ 37 ∷ 37 ∷ [] → (wordField (n .first) ≡ n .first) × (wordField (n .second) ≡ n .second)
-registers-fit w s t m e n next k p =
-    let d = template-stands w t n (drop next s) (sym e ∙ ap (matchMeaning s) k) in
+registers-fit w s at m e n next k p =
+    let d = template-stands w (drop at s) n (drop next s) (template-read w s at e k) in
     go (d .numbers) (rw p at (d .writable)) (d .value)
   where
     go : (ns : List ℕ) → Writable (37 ∷ 37 ∷ []) ns → numbersOf ns ≡ n → (wordField (n .first) ≡ n .first) × (wordField (n .second) ≡ n .second)

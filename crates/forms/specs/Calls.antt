@@ -4,14 +4,18 @@
 use Prim.Native.Nat.{ℕ}
 use mathlib.Core.Bool.{cond}
 use mathlib.Core.List.{List, _++_, map}
-use mathlib.Core.Option.{Option, none, some}
+use mathlib.Core.Option.{Option, none, some, Option·map}
 use lib.Dec.{leb}
 use lib.Ieee.{binary32, ofBits}
 use lib.ListN.{length, take, replicate}
-use Rattle.metering.specs.declared.Sign.the-variants.{Plus}
+use Rattle.metering.specs.Energy.{noMeter}
 use Rattle.metering.specs.declared.Interval.the-variants.{Counts, Singles}
 use Rattle.metering.specs.declared.Meter.{Meter}
+use Rattle.fuel.specs.Fuel.{noLine}
 use Rattle.fuel.specs.declared.FuelLine.{FuelLine}
+use Rattle.emissions.specs.declared.GridEntry.{GridEntry}
+use Rattle.emissions.specs.declared.GridKind.the-variants.{Thermal}
+use Rattle.emissions.specs.declared.Side.the-variants.{Project}
 use Rattle.emissions.specs.declared.Supply.{Supply}
 use Rattle.emissions.specs.declared.Supply.the-variants.{Combined, GridDefault, Captive, CaptiveDefault, Either}
 use Rattle.emissions.specs.declared.Loss.{Loss}
@@ -22,19 +26,16 @@ use Rattle.report.specs.declared.records.Plant.{Plant}
 use Rattle.ledger.specs.declared.SourceEntry.{SourceEntry}
 use Rattle.forms.specs.Form.{MeterForm, whole, single, Form, grid, plant, source, dropSource, dropPlant, report}
 use Rattle.forms.specs.Reading.{lineForm}
+use Rattle.forms.specs.declared.Kind.{Kind}
+use Rattle.forms.specs.declared.Kind.the-variants.{NoForm, GridForm, PlantForm, SourceForm, DropPlantForm, DropSourceForm, ReportForm}
+use Rattle.forms.specs.declared.Line.{Line}
 
--- A register's value; every pattern that is not a number is one value.
+-- A register is the binary32 value of its 32 bits ("an IEEE 754 binary32 register in kWh"); every pattern that is not a number is one value.
 abbrev pub meterOf : MeterForm → Meter
 meterOf (whole sign first last) = record { sign = sign; interval = Counts first last }
 meterOf (single sign first last) = record { sign = sign; interval = Singles (record { first = ofBits binary32 first; last = ofBits binary32 last }) }
 
 -- An entry has four places: the first of the parts, and empty ones. It counts all parts.
-abbrev pub noLine : FuelLine
-noLine = record { quantity = 0; ncv = 0; factor = 0 }
-
-abbrev pub noMeter : Meter
-noMeter = record { sign = Plus; interval = Counts 0 0 }
-
 unfoldable pub fourOf : {A : Type 0} → A → List A → List A
 fourOf empty parts = take 4 (parts ++ replicate 4 empty)
 
@@ -47,13 +48,9 @@ callOf (dropSource N) = call.dropSource N
 callOf (dropPlant N) = call.dropPlant N
 callOf report = call.report
 
-abbrev pub mapped : {A B : Type 0} → (A → B) → Option A → Option B
-mapped f none = none
-mapped f (some a) = some (f a)
-
 -- The call of a line, where it is a form.
 unfoldable pub lineCall : List ℕ → Option Call
-lineCall line = mapped callOf (lineForm line)
+lineCall line = Option·map callOf (lineForm line)
 
 -- ---- a call in the box's fields: a number larger than its field is the field's largest
 
@@ -97,3 +94,45 @@ fitted (enterSource n e) = enterSource (byteField n) (fittedSource e)
 fitted (call.dropPlant n) = call.dropPlant (byteField n)
 fitted (call.dropSource n) = call.dropSource (byteField n)
 fitted call.report = call.report
+
+-- The call of a form, in the box's fields.
+abbrev pub fittedCall : Form → Call
+fittedCall f = fitted (callOf f)
+
+-- ---- a line as it was read: its kind, its number, and an entry of each kind
+
+-- The call that a line holds: its kind says which parts count.
+abbrev pub callBy : Kind → Line → Option Call
+callBy NoForm l = none
+callBy GridForm l = some (enterGrid (l .grid))
+callBy PlantForm l = some (enterPlant (l .number) (l .plant))
+callBy SourceForm l = some (enterSource (l .number) (l .source))
+callBy DropPlantForm l = some (call.dropPlant (l .number))
+callBy DropSourceForm l = some (call.dropSource (l .number))
+callBy ReportForm l = some call.report
+
+abbrev pub callIn : Line → Option Call
+callIn l = callBy (l .kind) l
+
+-- The entries that do not count are the empty ones.
+abbrev pub emptyGrid : GridEntry
+emptyGrid = record { margin = 0; kind = Thermal }
+
+abbrev pub emptyPlant : Plant
+emptyPlant = record { site = 0; generation = 0; lines = replicate 4 noLine; count = 0 }
+
+abbrev pub emptySource : SourceEntry
+emptySource = record { side = Project; supply = Combined; loss = Nothing; meters = replicate 4 noMeter; count = 0 }
+
+unfoldable pub plainLine : Kind → ℕ → ℕ → Line
+plainLine kind number next = record { kind = kind; number = number; grid = emptyGrid; plant = emptyPlant; source = emptySource; next = next }
+
+-- The line that holds a call, with the place where its form ends; both are absent where there is no call. A call without a number has 0.
+unfoldable pub lineOf : Option Call → ℕ → Line
+lineOf none next = plainLine NoForm 0 0
+lineOf (some (enterGrid g)) next = record { kind = GridForm; number = 0; grid = g; plant = emptyPlant; source = emptySource; next = next }
+lineOf (some (enterPlant n p)) next = record { kind = PlantForm; number = n; grid = emptyGrid; plant = p; source = emptySource; next = next }
+lineOf (some (enterSource n e)) next = record { kind = SourceForm; number = n; grid = emptyGrid; plant = emptyPlant; source = e; next = next }
+lineOf (some (call.dropPlant n)) next = plainLine DropPlantForm n next
+lineOf (some (call.dropSource n)) next = plainLine DropSourceForm n next
+lineOf (some call.report) next = plainLine ReportForm 0 next

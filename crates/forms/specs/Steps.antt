@@ -12,10 +12,8 @@ use Rattle.emissions.specs.declared.GridKind.{GridKind}
 use Rattle.emissions.specs.declared.Side.{Side}
 use Rattle.emissions.specs.declared.Supply.{Supply}
 use Rattle.emissions.specs.declared.Loss.{Loss}
-use Rattle.ledger.specs.Standing.{Call, enterGrid, enterPlant, enterSource, dropPlant, dropSource}
-use Rattle.ledger.specs.Standing as call
-use Rattle.forms.specs.Form.{Form}
-use Rattle.forms.specs.Calls.{callOf, fitted}
+use Rattle.ledger.specs.Standing.{Call}
+use Rattle.forms.specs.Calls.{callIn}
 use Rattle.forms.specs.declared.part.KindRead.{KindRead}
 use Rattle.forms.specs.declared.part.KindRead.the-variants as kind
 use Rattle.forms.specs.declared.part.SideRead.{SideRead}
@@ -28,8 +26,6 @@ use Rattle.forms.specs.declared.part.MeterRead.{MeterRead}
 use Rattle.forms.specs.declared.part.MeterRead.the-variants as meter
 use Rattle.forms.specs.declared.part.FuelRead.{FuelRead}
 use Rattle.forms.specs.declared.part.FuelRead.the-variants as fuel
-use Rattle.forms.specs.declared.Kind.{Kind}
-use Rattle.forms.specs.declared.Kind.the-variants.{NoForm, GridForm, PlantForm, SourceForm, DropPlantForm, DropSourceForm, ReportForm}
 use Rattle.forms.specs.declared.Line.{Line}
 
 -- ---- what was read of the text s: the part, and what is left after its place
@@ -67,18 +63,6 @@ keptAt count parts part = cond (ltb count 4) (set parts count part) parts
 
 -- ---- the call of a line that was read
 
-abbrev pub callBy : Kind → Line → Option Call
-callBy NoForm l = none
-callBy GridForm l = some (enterGrid (l .grid))
-callBy PlantForm l = some (enterPlant (l .number) (l .plant))
-callBy SourceForm l = some (enterSource (l .number) (l .source))
-callBy DropPlantForm l = some (dropPlant (l .number))
-callBy DropSourceForm l = some (dropSource (l .number))
-callBy ReportForm l = some call.report
-
-abbrev pub callIn : Line → Option Call
-callIn l = callBy (l .kind) l
-
 abbrev pub withRest : List ℕ → Option Call → ℕ → Option (Read Call)
 withRest s none next = none
 withRest s (some c) next = some (record { value = c; rest = drop next s })
@@ -86,7 +70,3 @@ withRest s (some c) next = some (record { value = c; rest = drop next s })
 -- What a line opens with, and what is left after it.
 abbrev pub openingMeaning : List ℕ → Line → Option (Read Call)
 openingMeaning s l = withRest s (callIn l) (l .next)
-
--- The call of a form, in the box's fields.
-abbrev pub fittedCall : Form → Call
-fittedCall f = fitted (callOf f)

@@ -4,8 +4,9 @@ mod list;
 mod part;
 
 ghost use mathlib.Core.Path.{_≡_};
-ghost use mathlib.Core.Option.{none};
-ghost use lib.ListN.{drop};
+ghost use mathlib.Core.Option.{none, Option·map};
+ghost use Prim.Native.Nat.{_-_};
+ghost use lib.ListN.{length, drop};
 ghost use Rattle.text.specs.Template.{mapRead};
 ghost use Rattle.forms.specs.Reading.{
   oneOf,
@@ -17,10 +18,9 @@ ghost use Rattle.forms.specs.Reading.{
   isClosing,
   formIn,
 };
-ghost use Rattle.forms.specs.Calls.{mapped};
+ghost use Rattle.forms.specs.Calls.{fittedCall, callIn, plainLine, lineOf};
 ghost use Rattle.ledger.specs.Judging.{isThere};
-ghost use Rattle.forms.specs.Steps.{callIn, openingMeaning, fittedCall};
-use crate::list::no_meter;
+ghost use Rattle.forms.specs.Steps.{openingMeaning};
 use crate::list::read_fuels;
 use crate::list::read_meters;
 use crate::part::KindRead;
@@ -40,6 +40,7 @@ use emissions::Side;
 use emissions::Supply;
 use fuel::FuelLine;
 use ledger::SourceEntry;
+use metering::Meter;
 use report::records::Plant;
 use text::Match;
 
@@ -54,7 +55,8 @@ pub enum Kind {
     ReportForm,
 }
 
-// A line as read: its kind says which of its parts count. `next` is the place after what was read.
+// A line as read: its kind says which of its parts count, and the others are empty. `next` is the place
+// after what was read.
 pub struct Line {
     pub kind: Kind,
     pub number: u8,
@@ -66,16 +68,10 @@ pub struct Line {
 
 // A line of a kind whose other parts are empty.
 fn plain_line(kind: Kind, number: u8, next: usize) -> Line
-    ensures kind { λ r. ⌜ r .kind ≡ kind ⌝ }
-    ensures number { λ r. ⌜ r .number ≡ number ⌝ }
-    ensures next { λ r. ⌜ r .next ≡ next ⌝ }
+    ensures { λ r. ⌜ r ≡ plainLine kind number next ⌝ }
 {
-    let none = no_meter();
-    let fuel = FuelLine {
-        quantity: 0,
-        ncv: 0,
-        factor: 0,
-    };
+    let fuel = FuelLine::empty();
+    let meter = Meter::empty();
     Line {
         kind,
         number,
@@ -93,7 +89,7 @@ fn plain_line(kind: Kind, number: u8, next: usize) -> Line
             side: Side::Project,
             supply: Supply::Combined,
             loss: Loss::Nothing,
-            meters: [none; 4],
+            meters: [meter; 4],
             count: 0,
         },
         next,
@@ -101,13 +97,14 @@ fn plain_line(kind: Kind, number: u8, next: usize) -> Line
 }
 
 fn no_form() -> Line
-    ensures { λ r. ⌜ callIn r ≡ none ⌝ }
+    ensures { λ r. ⌜ r ≡ lineOf none 0 ⌝ }
 {
     plain_line(Kind::NoForm, 0, 0)
 }
 
 fn read_grid(line: &[u8]) -> Line
-    ensures { λ r. ⌜ openingMeaning (now (line .entry)) r ≡ mapRead fittedCall (gridIn (now (line .entry))) ⌝ }
+    ensures call { λ r. ⌜ openingMeaning (now (line .entry)) r ≡ mapRead fittedCall (gridIn (now (line .entry))) ⌝ }
+    ensures parts { λ r. ⌜ r ≡ lineOf (callIn r) (r .next) ⌝ }
 {
     let Match::Match(numbers, at) = text::read_template(line, 0, b"(grid # ") else {
         return no_form();
@@ -133,7 +130,8 @@ fn read_grid(line: &[u8]) -> Line
 }
 
 fn read_plant(line: &[u8]) -> Line
-    ensures { λ r. ⌜ openingMeaning (now (line .entry)) r ≡ mapRead fittedCall (plantIn (now (line .entry))) ⌝ }
+    ensures call { λ r. ⌜ openingMeaning (now (line .entry)) r ≡ mapRead fittedCall (plantIn (now (line .entry))) ⌝ }
+    ensures parts { λ r. ⌜ r ≡ lineOf (callIn r) (r .next) ⌝ }
 {
     let Match::Match(numbers, at) = text::read_template(line, 0, b"(plant # # #") else {
         return no_form();
@@ -161,7 +159,8 @@ fn read_plant(line: &[u8]) -> Line
 }
 
 fn read_source(line: &[u8]) -> Line
-    ensures { λ r. ⌜ openingMeaning (now (line .entry)) r ≡ mapRead fittedCall (sourceIn (now (line .entry))) ⌝ }
+    ensures call { λ r. ⌜ openingMeaning (now (line .entry)) r ≡ mapRead fittedCall (sourceIn (now (line .entry))) ⌝ }
+    ensures parts { λ r. ⌜ r ≡ lineOf (callIn r) (r .next) ⌝ }
 {
     let Match::Match(numbers, at) = text::read_template(line, 0, b"(source # ") else {
         return no_form();
@@ -201,7 +200,8 @@ fn read_source(line: &[u8]) -> Line
 
 // Reads a drop or a report.
 fn read_other(line: &[u8]) -> Line
-    ensures { λ r. ⌜ openingMeaning (now (line .entry)) r ≡ mapRead fittedCall (oneOf others (now (line .entry))) ⌝ }
+    ensures call { λ r. ⌜ openingMeaning (now (line .entry)) r ≡ mapRead fittedCall (oneOf others (now (line .entry))) ⌝ }
+    ensures parts { λ r. ⌜ r ≡ lineOf (callIn r) (r .next) ⌝ }
 {
     if let Match::Match(numbers, next) = text::read_template(line, 0, b"(drop source #") {
         return plain_line(Kind::DropSourceForm, byte_field(numbers.first), next);
@@ -233,7 +233,8 @@ fn is_form(line: Line) -> bool
 
 // Reads what a line opens with.
 fn read_opening(line: &[u8]) -> Line
-    ensures { λ r. ⌜ openingMeaning (now (line .entry)) r ≡ mapRead fittedCall (openingIn (now (line .entry))) ⌝ }
+    ensures call { λ r. ⌜ openingMeaning (now (line .entry)) r ≡ mapRead fittedCall (openingIn (now (line .entry))) ⌝ }
+    ensures parts { λ r. ⌜ r ≡ lineOf (callIn r) (r .next) ⌝ }
 {
     let grid = read_grid(line);
     if is_form(grid) {
@@ -263,9 +264,9 @@ fn closes(line: &[u8], at: usize) -> bool
     line[at] == b')'
 }
 
-// Reads a line: the call that it makes, where it is a form.
+// Reads a line: the call that it makes, where it is a form. A form ends at its last byte, the bracket.
 pub fn read_line(line: &[u8]) -> Line
-    ensures { λ r. ⌜ callIn r ≡ mapped fittedCall (formIn (now (line .entry))) ⌝ }
+    ensures { λ r. ⌜ r ≡ lineOf (Option·map fittedCall (formIn (now (line .entry)))) (length (now (line .entry)) - 1) ⌝ }
 {
     let opening = read_opening(line);
     let next = opening.next;

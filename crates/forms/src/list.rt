@@ -4,17 +4,17 @@ ghost use mathlib.Core.Path.{_≡_};
 ghost use mathlib.Core.List.{map};
 ghost use Prim.Native.Nat.{_+_, _<_, _^_};
 ghost use lib.ListN.{length, drop};
+ghost use Rattle.fuel.specs.Fuel.{noLine};
+ghost use Rattle.metering.specs.Energy.{noMeter};
 ghost use Rattle.forms.specs.Reading.{manyOf, meters, fuels};
-ghost use Rattle.forms.specs.Calls.{meterOf, noLine, noMeter, fourOf, fittedLine};
+ghost use Rattle.forms.specs.Calls.{meterOf, fourOf, fittedLine};
 ghost use Rattle.forms.specs.Steps.{keptAt};
 use crate::part::FuelRead;
 use crate::part::MeterRead;
 use crate::part::read_fuel;
 use crate::part::read_meter;
 use fuel::FuelLine;
-use metering::Interval;
 use metering::Meter;
-use metering::Sign;
 
 // The parts of an entry: the first four, how many there are, and the place after them.
 pub struct Fuels {
@@ -52,11 +52,7 @@ pub fn read_fuels(line: &[u8], at: usize) -> Fuels
     ensures count { λ r. ⌜ r .count ≡ length (manyOf fuels (drop at (now (line .entry))) .value) ⌝ }
     ensures rest { λ r. ⌜ drop (r .next) (now (line .entry)) ≡ manyOf fuels (drop at (now (line .entry))) .rest ⌝ }
 {
-    let none = FuelLine {
-        quantity: 0,
-        ncv: 0,
-        factor: 0,
-    };
+    let none = FuelLine::empty();
     let mut fuels = Fuels {
         lines: [none; 4],
         count: 0,
@@ -91,22 +87,13 @@ fn with_meter(meters: Meters, meter: Meter, next: usize) -> Meters
     more
 }
 
-pub fn no_meter() -> Meter
-    ensures { λ r. ⌜ r ≡ noMeter ⌝ }
-{
-    Meter {
-        sign: Sign::Plus,
-        interval: Interval::Counts(0, 0),
-    }
-}
-
 // Reads meters: as many as stand at a place.
 pub fn read_meters(line: &[u8], at: usize) -> Meters
     ensures meters { λ r. ⌜ r .meters ≡ fourOf noMeter (map meterOf (manyOf meters (drop at (now (line .entry))) .value)) ⌝ }
     ensures count { λ r. ⌜ r .count ≡ length (manyOf meters (drop at (now (line .entry))) .value) ⌝ }
     ensures rest { λ r. ⌜ drop (r .next) (now (line .entry)) ≡ manyOf meters (drop at (now (line .entry))) .rest ⌝ }
 {
-    let none = no_meter();
+    let none = Meter::empty();
     let mut meters = Meters {
         meters: [none; 4],
         count: 0,

@@ -7,13 +7,13 @@ use native.Mathlib.Omega.{arith}
 use lib.ListN.{length, take, drop}
 use borrow.Author.Tests.{le-leb}
 use denote.Ref.{now}
+use Rattle.text.specs.Parts.{Placed, placed, put, putParts}
 use Rattle.text.proofs.Buffer.{after-fits}
+use Rattle.text.proofs.Puts.{put-nothing, put-part}
 use Rattle.report.specs.Report.{Reply}
 use Rattle.forms.specs.Calls.{lineCall}
 use Rattle.answers.specs.Answers.{replyParts}
-use Rattle.answers.specs.Input.{output, needed}
-use Rattle.answers.specs.Steps.{lineReply, Placed, placed, put, putParts}
-use Rattle.answers.proofs.Puts.{put-nothing, put-part}
+use Rattle.answers.specs.Input.{lineReply, output, needed}
 use Rattle.answers.proofs.Lines.{line-fits}
 use Rattle.answers.proofs.Replies.{output-line-by-line, textFrom, text-at, text-past}
 use Rattle.answers.proofs.Lengths.{output-fits}

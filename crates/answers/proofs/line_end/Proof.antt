@@ -4,14 +4,14 @@ use Prim.Native.Nat.{_+_, _-_, _≤_}
 use native.Mathlib.Omega.{arith}
 use lib.ListN.{length, drop}
 use denote.Ref.{now}
-use Rattle.answers.specs.Steps.{lineOf}
+use Rattle.answers.specs.Steps.{firstLine}
 use Rattle.answers.proofs.Lines.{line-here, line-more, line-none}
 use Rattle.answers.proofs.line_end.Statement.{statement}
 use Rattle.answers.proofs.line_end.Tie as tie
 
 abbrev Inv-loop : tie.InvT-loop
 Inv-loop input at i₀ i =
-    (at ≤ i) × (i ≤ length input) × (at + length (lineOf (drop at input)) ≡ i + length (lineOf (drop i input)))
+    (at ≤ i) × (i ≤ length input) × (at + length (firstLine (drop at input)) ≡ i + length (firstLine (drop i input)))
 
 abbrev μ-loop : tie.MeasureT-loop
 μ-loop input at i₀ i = length input - i

@@ -2,10 +2,11 @@
 use borrow.Author.Needs.{needs}
 use mathlib.Core.Path.{sym, ap, _∙_}
 use denote.Ref.{now}
-use Rattle.text.specs.Template.{matchMeaning}
+use Rattle.text.proofs.Templates.{template-read}
 use Rattle.forms.specs.Reading.{gridIn}
-use Rattle.forms.specs.Calls.{callOf, fitted}
+use Rattle.forms.specs.Calls.{callOf, fitted, plainLine, lineOf}
 use Rattle.forms.specs.Steps.{kindMeaning}
+use Rattle.forms.proofs.Lines.{nothing-read}
 use Rattle.forms.proofs.read_grid.Statement.{statement}
 use Rattle.forms.proofs.read_grid.Tie as tie
 
@@ -28,7 +29,7 @@ returns : tie.Need-returns
 unfolding gridIn
 returns c =
     let s = now (c .before .before .before .before .before .before .args .line) in
-    rw (c .no-form .ensures, sym (c .before .before .before .read-template .ensures) ∙ ap (matchMeaning s) (c .before .enum-told .given .1))
+    nothing-read s (gridIn s) (c .no-form .ensures) (rw (template-read _ s 0 (c .before .before .before .read-template .ensures) (c .before .enum-told .given .1)))
 
 read-kind-requires : tie.Need-read-kind-requires
 read-kind-requires c κs = search needs
@@ -46,11 +47,11 @@ returns-2 : tie.Need-returns-2
 unfolding gridIn
 returns-2 c =
     let s = now (c .before .before .before .before .before .before .before .before .before .before .args .line) in
-    rw (
-      c .no-form2 .ensures,
-      sym (c .before .before .before .before .before .before .before .read-template .ensures) ∙ ap (matchMeaning s) (c .before .before .before .before .before .numbers .given .1),
+    nothing-read s (gridIn s) (c .no-form2 .ensures)
+    (rw (
+      template-read _ s 0 (c .before .before .before .before .before .before .before .read-template .ensures) (c .before .before .before .before .before .numbers .given .1),
       sym (c .before .before .before .read-kind .ensures) ∙ ap (kindMeaning s) (c .before .enum-told2 .given .1),
-    )
+    ))
 
 plain-line-requires : tie.Need-plain-line-requires
 plain-line-requires c κs = search needs
@@ -59,13 +60,15 @@ word-field-requires : tie.Need-word-field-requires
 word-field-requires c κs = search needs
 
 returns-3 : tie.Need-returns-3
-unfolding gridIn callOf fitted
+unfolding gridIn callOf fitted lineOf plainLine
 returns-3 c =
-    let s = now (c .before .before .before .before .before .before .before .before .before .before .before .before .before .before .args .line) in
-    rw (
-      c .word-field .ensures,
-      sym (c .before .before .before .before .before .before .before .before .before .before .before .read-template .ensures) ∙ ap (matchMeaning s) (c .before .before .before .before .before .before .before .before .before .numbers .given .1),
-      sym (c .before .before .before .before .before .before .before .read-kind .ensures) ∙ ap (kindMeaning s) (c .before .before .before .before .before .kind .given .1),
+    let s = now (c .before .before .before .before .before .before .before .before .before .before .before .before .before .before .args .line) in (
+      rw (
+        c .word-field .ensures,
+        template-read _ s 0 (c .before .before .before .before .before .before .before .before .before .before .before .read-template .ensures) (c .before .before .before .before .before .before .before .before .before .numbers .given .1),
+        sym (c .before .before .before .before .before .before .before .read-kind .ensures) ∙ ap (kindMeaning s) (c .before .before .before .before .before .kind .given .1),
+      ),
+      rw (c .before .before .before .plain-line .ensures),
     )
 
 pub read-grid-spec : {M : Type 1} → statement M

@@ -21,14 +21,16 @@ is-form-requires c κs = search needs
 returns : tie.Need-returns
 unfolding openingIn
 returns c =
-    let s = text (c .before .before .before .before) in
-    read-first s (c .before .before .read-grid .result) (gridIn s) _ (c .before .before .read-grid .ensures) (sym (c .before .is-form .ensures) ∙ c .if1 .taken)
+    let s = text (c .before .before .before .before) in (
+      read-first s (c .before .before .read-grid .result) (gridIn s) _ (c .before .before .read-grid .ensures .0) (sym (c .before .is-form .ensures) ∙ c .if1 .taken),
+      c .before .before .read-grid .ensures .1,
+    )
 
 no-grid : (p : tie.Else1) → let s = text (p .before .before .before .before) in openingIn s ≡ orElse (plantIn s) (orElse (sourceIn s) (oneOf others s))
 unfolding openingIn
 no-grid p =
     let s = text (p .before .before .before .before) in
-    read-next s (p .before .before .read-grid .result) (gridIn s) _ (p .before .before .read-grid .ensures) (sym (p .before .is-form .ensures) ∙ p .if1 .left)
+    read-next s (p .before .before .read-grid .result) (gridIn s) _ (p .before .before .read-grid .ensures .0) (sym (p .before .is-form .ensures) ∙ p .if1 .left)
 
 read-plant-requires : tie.Need-read-plant-requires
 read-plant-requires c κs = search needs
@@ -38,15 +40,17 @@ is-form-requires-2 c κs = search needs
 
 returns-2 : tie.Need-returns-2
 returns-2 c =
-    let s = text (c .before .before .before .before .before .before .before) in
-    rw (no-grid (c .before .before .before))
-    (read-first s (c .before .before .read-plant .result) (plantIn s) _ (c .before .before .read-plant .ensures) (sym (c .before .is-form2 .ensures) ∙ c .if2 .taken))
+    let s = text (c .before .before .before .before .before .before .before) in (
+      rw (no-grid (c .before .before .before))
+          (read-first s (c .before .before .read-plant .result) (plantIn s) _ (c .before .before .read-plant .ensures .0) (sym (c .before .is-form2 .ensures) ∙ c .if2 .taken)),
+      c .before .before .read-plant .ensures .1,
+    )
 
 no-plant : (p : tie.Else2) → let s = text (p .before .before .before .before .before .before .before) in openingIn s ≡ orElse (sourceIn s) (oneOf others s)
 no-plant p =
     let s = text (p .before .before .before .before .before .before .before) in
     no-grid (p .before .before .before)
-    ∙ read-next s (p .before .before .read-plant .result) (plantIn s) _ (p .before .before .read-plant .ensures) (sym (p .before .is-form2 .ensures) ∙ p .if2 .left)
+    ∙ read-next s (p .before .before .read-plant .result) (plantIn s) _ (p .before .before .read-plant .ensures .0) (sym (p .before .is-form2 .ensures) ∙ p .if2 .left)
 
 read-source-requires : tie.Need-read-source-requires
 read-source-requires c κs = search needs
@@ -56,21 +60,23 @@ is-form-requires-3 c κs = search needs
 
 returns-3 : tie.Need-returns-3
 returns-3 c =
-    let s = text (c .before .before .before .before .before .before .before .before .before .before) in
-    rw (no-plant (c .before .before .before))
-    (read-first s (c .before .before .read-source .result) (sourceIn s) _ (c .before .before .read-source .ensures) (sym (c .before .is-form3 .ensures) ∙ c .if3 .taken))
+    let s = text (c .before .before .before .before .before .before .before .before .before .before) in (
+      rw (no-plant (c .before .before .before))
+          (read-first s (c .before .before .read-source .result) (sourceIn s) _ (c .before .before .read-source .ensures .0) (sym (c .before .is-form3 .ensures) ∙ c .if3 .taken)),
+      c .before .before .read-source .ensures .1,
+    )
 
 no-source : (p : tie.Else3) → let s = text (p .before .before .before .before .before .before .before .before .before .before) in openingIn s ≡ oneOf others s
 no-source p =
     let s = text (p .before .before .before .before .before .before .before .before .before .before) in
     no-plant (p .before .before .before)
-    ∙ read-next s (p .before .before .read-source .result) (sourceIn s) _ (p .before .before .read-source .ensures) (sym (p .before .is-form3 .ensures) ∙ p .if3 .left)
+    ∙ read-next s (p .before .before .read-source .result) (sourceIn s) _ (p .before .before .read-source .ensures .0) (sym (p .before .is-form3 .ensures) ∙ p .if3 .left)
 
 read-other-requires : tie.Need-read-other-requires
 read-other-requires c κs = search needs
 
 returns-4 : tie.Need-returns-4
-returns-4 c = rw (no-source (c .before)) (c .read-other .ensures)
+returns-4 c = (rw (no-source (c .before)) (c .read-other .ensures .0), c .read-other .ensures .1)
 
 pub read-opening-spec : {M : Type 1} → statement M
 read-opening-spec =

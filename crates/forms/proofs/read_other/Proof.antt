@@ -1,12 +1,12 @@
 -- `forms::read_other` meets its contract: what is left of the table after the rows that are not read reads what the whole reads. Assumes nothing.
 use borrow.Author.Needs.{needs}
-use mathlib.Core.Path.{sym, ap, _∙_}
+use mathlib.Core.Path.{refl, sym, ap, _∙_}
 use denote.Ref.{now}
 use Rattle.text.specs.Template.{mapRead}
 use Rattle.forms.specs.Reading.{others}
-use Rattle.forms.specs.Calls.{callOf, fitted}
-use Rattle.forms.specs.Steps.{fittedCall}
+use Rattle.forms.specs.Calls.{callOf, fitted, fittedCall, plainLine, lineOf}
 use Rattle.forms.proofs.Rows.{Left, row-passed, row-read, no-row}
+use Rattle.forms.proofs.Lines.{nothing-read}
 use Rattle.forms.proofs.read_other.Statement.{statement}
 use Rattle.forms.proofs.read_other.Tie as tie
 
@@ -26,13 +26,14 @@ plain-line-requires : tie.Need-plain-line-requires
 plain-line-requires c κs = search needs
 
 returns : tie.Need-returns
-unfolding others callOf fitted
+unfolding others callOf fitted lineOf plainLine
 returns c =
-    let l = c .plain-line .ensures in
-    rw (l .0, l .1 .0, c .before .byte-field .ensures, l .1 .1)
-    (sym
-    (ap (mapRead fittedCall)
-    (row-read _ _ _ _ _ (c .before .before .before .before .before .read-template .ensures) _ _ (c .before .before .before .numbers .given .1))))
+    rw (c .plain-line .ensures, c .before .byte-field .ensures) (
+      sym
+          (ap (mapRead fittedCall)
+          (row-read _ _ _ _ _ (c .before .before .before .before .before .read-template .ensures) _ _ (c .before .before .before .numbers .given .1))),
+      refl,
+    )
 
 enum-told : tie.Need-enum-told
 enum-told c = search needs
@@ -57,14 +58,15 @@ unfolding others
 left-1 p = row-passed _ _ _ _ _ (p .before .before .read-template .ensures) (p .enum-told .given .1)
 
 returns-2 : tie.Need-returns-2
-unfolding others callOf fitted
+unfolding others callOf fitted lineOf plainLine
 returns-2 c =
-    let l = c .plain-line2 .ensures in
-    rw (l .0, l .1 .0, c .before .byte-field2 .ensures, l .1 .1)
-    (sym
-    (ap (mapRead fittedCall)
-    (left-1 (c .before .before .before .before .before .before .before)
-    ∙ row-read _ _ _ _ _ (c .before .before .before .before .before .read-template2 .ensures) _ _ (c .before .before .before .numbers2 .given .1))))
+    rw (c .plain-line2 .ensures, c .before .byte-field2 .ensures) (
+      sym
+          (ap (mapRead fittedCall)
+          (left-1 (c .before .before .before .before .before .before .before)
+          ∙ row-read _ _ _ _ _ (c .before .before .before .before .before .read-template2 .ensures) _ _ (c .before .before .before .numbers2 .given .1))),
+      refl,
+    )
 
 enum-told-2 : tie.Need-enum-told-2
 enum-told-2 c = search needs
@@ -86,14 +88,15 @@ unfolding others
 left-2 p = left-1 (p .before .before .before .before) ∙ row-passed _ _ _ _ _ (p .before .before .read-template2 .ensures) (p .enum-told2 .given .1)
 
 returns-3 : tie.Need-returns-3
-unfolding others callOf fitted
+unfolding others callOf fitted lineOf plainLine
 returns-3 c =
-    let l = c .plain-line3 .ensures in
-    rw (l .0, l .1 .1)
-    (sym
-    (ap (mapRead fittedCall)
-    (left-2 (c .before .before .before .before .before .before)
-    ∙ row-read _ _ _ _ _ (c .before .before .before .before .read-template3 .ensures) _ _ (c .before .before .next .given .1))))
+    rw (c .plain-line3 .ensures) (
+      sym
+          (ap (mapRead fittedCall)
+          (left-2 (c .before .before .before .before .before .before)
+          ∙ row-read _ _ _ _ _ (c .before .before .before .before .read-template3 .ensures) _ _ (c .before .before .next .given .1))),
+      refl,
+    )
 
 enum-told-3 : tie.Need-enum-told-3
 enum-told-3 c = search needs
@@ -104,12 +107,10 @@ no-form-requires c κs = search needs
 returns-4 : tie.Need-returns-4
 unfolding others
 returns-4 c =
-    rw (c .no-form .ensures)
-    (sym
-    (ap (mapRead fittedCall)
+    nothing-read _ _ (c .no-form .ensures)
     (left-2 (c .before .before .before .before .before)
     ∙ row-passed _ _ _ _ _ (c .before .before .before .read-template3 .ensures) (c .before .enum-told3 .given .1)
-    ∙ no-row _)))
+    ∙ no-row _)
 
 pub read-other-spec : {M : Type 1} → statement M
 read-other-spec =

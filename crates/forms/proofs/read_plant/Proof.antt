@@ -1,11 +1,13 @@
 -- `forms::read_plant` meets its contract. Assumes nothing.
 use borrow.Author.Needs.{needs}
-use mathlib.Core.Path.{refl, sym, ap, _∙_}
+use mathlib.Core.Path.{refl}
 use denote.Ref.{now}
-use Rattle.text.specs.Template.{matchMeaning}
+use Rattle.text.proofs.Templates.{template-read}
+use Rattle.fuel.specs.Fuel.{noLine}
 use Rattle.forms.specs.Reading.{plantIn}
-use Rattle.forms.specs.Calls.{noLine, callOf, fittedLine, fitted}
+use Rattle.forms.specs.Calls.{callOf, fittedLine, fitted, plainLine, lineOf}
 use Rattle.forms.proofs.Lists.{map-four}
+use Rattle.forms.proofs.Lines.{nothing-read}
 use Rattle.forms.proofs.read_plant.Statement.{statement}
 use Rattle.forms.proofs.read_plant.Tie as tie
 
@@ -28,7 +30,7 @@ returns : tie.Need-returns
 unfolding plantIn
 returns c =
     let s = now (c .before .before .before .before .before .before .args .line) in
-    rw (c .no-form .ensures, sym (c .before .before .before .read-template .ensures) ∙ ap (matchMeaning s) (c .before .enum-told .given .1))
+    nothing-read s (plantIn s) (c .no-form .ensures) (rw (template-read _ s 0 (c .before .before .before .read-template .ensures) (c .before .enum-told .given .1)))
 
 read-fuels-requires : tie.Need-read-fuels-requires
 read-fuels-requires c κs = search needs
@@ -49,20 +51,22 @@ byte-field-requires-3 : tie.Need-byte-field-requires-3
 byte-field-requires-3 c κs = search needs
 
 returns-2 : tie.Need-returns-2
-unfolding plantIn callOf fitted
+unfolding plantIn callOf fitted lineOf plainLine
 returns-2 c =
     let s = now (c .before .before .before .before .before .before .before .before .before .before .before .before .before .before .before .args .line) in
-    let f = c .before .before .before .before .before .before .before .before .read-fuels .ensures in
-    rw (
-      sym (c .before .before .before .before .before .before .before .before .before .before .before .before .read-template .ensures) ∙ ap (matchMeaning s) (c .before .before .before .before .before .before .before .before .before .before .numbers .given .1),
-      c .before .before .before .byte-field .ensures,
-      c .before .before .word-field .ensures,
-      c .before .byte-field2 .ensures,
-      c .byte-field3 .ensures,
-      f .0,
-      f .1 .0,
-      f .1 .1,
-      map-four fittedLine noLine _ refl,
+    let f = c .before .before .before .before .before .before .before .before .read-fuels .ensures in (
+      rw (
+        template-read _ s 0 (c .before .before .before .before .before .before .before .before .before .before .before .before .read-template .ensures) (c .before .before .before .before .before .before .before .before .before .before .numbers .given .1),
+        c .before .before .before .byte-field .ensures,
+        c .before .before .word-field .ensures,
+        c .before .byte-field2 .ensures,
+        c .byte-field3 .ensures,
+        f .0,
+        f .1 .0,
+        f .1 .1,
+        map-four fittedLine noLine _ refl,
+      ),
+      rw (c .before .before .before .before .before .before .plain-line .ensures),
     )
 
 pub read-plant-spec : {M : Type 1} → statement M

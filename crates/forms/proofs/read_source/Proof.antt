@@ -6,11 +6,12 @@ use Prim.Native.Nat.{ℕ}
 use lib.ListN.{drop}
 use denote.Ref.{now}
 use Rattle.text.specs.Word.{bytes}
-use Rattle.text.specs.Template.{templateIn, matchMeaning}
+use Rattle.text.specs.Template.{templateIn}
+use Rattle.text.proofs.Templates.{template-read}
 use Rattle.forms.specs.Reading.{oneOf, sides, supplies, losses, sourceIn}
-use Rattle.forms.specs.Calls.{callOf, fittedSupply, fittedLoss, fitted}
+use Rattle.forms.specs.Calls.{callOf, fittedSupply, fittedLoss, fitted, plainLine, lineOf}
 use Rattle.forms.specs.Steps.{found, sideMeaning, supplyMeaning, lossMeaning}
-use Rattle.forms.proofs.Lines.{part-missing, ReadAs, part-read, source-call}
+use Rattle.forms.proofs.Lines.{part-missing, ReadAs, part-read, source-call, nothing-read}
 use Rattle.forms.proofs.read_source.Statement.{statement}
 use Rattle.forms.proofs.read_source.Tie as tie
 
@@ -36,11 +37,11 @@ returns : tie.Need-returns
 unfolding sourceIn
 returns c =
     let s = text (c .before .before .before .before .before .before) in
-    rw (c .no-form .ensures, sym (c .before .before .before .read-template .ensures) ∙ ap (matchMeaning s) (c .before .enum-told .given .1))
+    nothing-read s (sourceIn s) (c .no-form .ensures) (rw (template-read _ s 0 (c .before .before .before .read-template .ensures) (c .before .enum-told .given .1)))
 
 number-read : (p : tie.After-numbers) → let n = p .numbers .given .0 in
     templateIn (bytes "(source # ") (text (p .before .before .before .before .before)) ≡ found (text (p .before .before .before .before .before)) (n .0) (n .1 .0)
-number-read p = sym (p .before .before .read-template .ensures) ∙ ap (matchMeaning (text (p .before .before .before .before .before))) (p .numbers .given .1)
+number-read p = template-read _ (text (p .before .before .before .before .before)) 0 (p .before .before .read-template .ensures) (p .numbers .given .1)
 
 read-side-requires : tie.Need-read-side-requires
 read-side-requires c κs = search needs
@@ -58,7 +59,8 @@ returns-2 : tie.Need-returns-2
 unfolding sourceIn
 returns-2 c =
     let s = text (c .before .before .before .before .before .before .before .before .before .before) in
-    rw (c .no-form2 .ensures, number-read (c .before .before .before .before .before), sym (c .before .before .before .read-side .ensures) ∙ ap (sideMeaning s) (c .before .enum-told2 .given .1))
+    nothing-read s (sourceIn s) (c .no-form2 .ensures)
+    (rw (number-read (c .before .before .before .before .before), sym (c .before .before .before .read-side .ensures) ∙ ap (sideMeaning s) (c .before .enum-told2 .given .1)))
 
 side-read : (p : tie.After-side) → let n = p .before .before .before .before .numbers .given .0 in let side = p .side .given .0 in
     oneOf sides (drop (n .1 .0) (text (p .before .before .before .before .before .before .before .before .before))) ≡ found (text (p .before .before .before .before .before .before .before .before .before)) (side .0) (side .1 .0)
@@ -80,13 +82,13 @@ returns-3 : tie.Need-returns-3
 unfolding sourceIn
 returns-3 c =
     let s = text (c .before .before .before .before .before .before .before .before .before .before .before .before .before .before) in
-    rw (
-      c .no-form3 .ensures,
+    nothing-read s (sourceIn s) (c .no-form3 .ensures)
+    (rw (
       number-read (c .before .before .before .before .before .before .before .before .before),
       side-read (c .before .before .before .before .before),
       part-missing fittedSupply (oneOf supplies (drop (c .before .before .before .before .before .side .given .0 .1 .0) s))
           (sym (ap (supplyMeaning s) (c .before .enum-told3 .given .1)) ∙ c .before .before .before .read-supply .ensures),
-    )
+    ))
 
 supply-read : (p : tie.After-supply) → let side = p .before .before .before .before .side .given .0 in let supply = p .supply .given .0 in
     ReadAs fittedSupply (oneOf supplies (drop (side .1 .0) (text (p .before .before .before .before .before .before .before .before .before .before .before .before .before)))) (text (p .before .before .before .before .before .before .before .before .before .before .before .before .before)) (supply .0) (supply .1 .0)
@@ -108,14 +110,14 @@ returns-4 : tie.Need-returns-4
 unfolding sourceIn
 returns-4 c =
     let s = text (c .before .before .before .before .before .before .before .before .before .before .before .before .before .before .before .before .before .before) in
-    rw (
-      c .no-form4 .ensures,
+    nothing-read s (sourceIn s) (c .no-form4 .ensures)
+    (rw (
       number-read (c .before .before .before .before .before .before .before .before .before .before .before .before .before),
       side-read (c .before .before .before .before .before .before .before .before .before),
       supply-read (c .before .before .before .before .before) .1,
       part-missing fittedLoss (oneOf losses (drop (c .before .before .before .before .before .supply .given .0 .1 .0) s))
           (sym (ap (lossMeaning s) (c .before .enum-told4 .given .1)) ∙ c .before .before .before .read-loss .ensures),
-    )
+    ))
 
 loss-read : (p : tie.After-loss) → let supply = p .before .before .before .before .supply .given .0 in let loss = p .loss .given .0 in
     ReadAs fittedLoss (oneOf losses (drop (supply .1 .0) (text (p .before .before .before .before .before .before .before .before .before .before .before .before .before .before .before .before .before)))) (text (p .before .before .before .before .before .before .before .before .before .before .before .before .before .before .before .before .before)) (loss .0) (loss .1 .0)
@@ -134,13 +136,15 @@ byte-field-requires-2 : tie.Need-byte-field-requires-2
 byte-field-requires-2 c κs = search needs
 
 returns-5 : tie.Need-returns-5
-unfolding sourceIn callOf fitted
+unfolding sourceIn callOf fitted lineOf plainLine
 returns-5 c =
     let supply = supply-read (c .before .before .before .before .before .before .before .before .before .before .before .before) in
     let loss = loss-read (c .before .before .before .before .before .before .before .before) in
-    let m = c .before .before .before .before .before .before .read-meters .ensures in
-    rw (number-read (c .before .before .before .before .before .before .before .before .before .before .before .before .before .before .before .before .before .before .before .before), side-read (c .before .before .before .before .before .before .before .before .before .before .before .before .before .before .before .before), supply .1, loss .1, c .before .before .before .before .before .byte-field .ensures, c .byte-field2 .ensures, m .0, m .1 .0, m .1 .1)
-    (source-call _ _ _ _ _ _ _ _ _ (supply .2) (loss .2))
+    let m = c .before .before .before .before .before .before .read-meters .ensures in (
+      rw (number-read (c .before .before .before .before .before .before .before .before .before .before .before .before .before .before .before .before .before .before .before .before), side-read (c .before .before .before .before .before .before .before .before .before .before .before .before .before .before .before .before), supply .1, loss .1, c .before .before .before .before .before .byte-field .ensures, c .byte-field2 .ensures, m .0, m .1 .0, m .1 .1)
+          (source-call _ _ _ _ _ _ _ _ _ (supply .2) (loss .2)),
+      rw (c .before .before .before .plain-line .ensures),
+    )
 
 pub read-source-spec : {M : Type 1} → statement M
 read-source-spec =

@@ -1,7 +1,9 @@
 -- `answers::line::answer_line` meets its contract: a line above 256 bytes is no call, and any other makes the call that was read. Assumes nothing.
 use borrow.Author.Needs.{needs}
-use mathlib.Core.Path.{_∙_}
+use mathlib.Core.Path.{ap, _∙_}
 use denote.Ref.{now}
+use Rattle.forms.specs.Calls.{callIn}
+use Rattle.forms.proofs.Lines.{call-in-line}
 use Rattle.answers.proofs.Forms.{long-line, read-steps, read-replies}
 use Rattle.answers.proofs.line.answer_line.Statement.{statement}
 use Rattle.answers.proofs.line.answer_line.Tie as tie
@@ -24,7 +26,7 @@ returns-2 c =
     let i = c .before .before .before .before in
     let line = now (i .args .line) in
     let h = c .before .before .if1 .left in
-    let e = c .before .read-line .ensures in
+    let e = ap callIn (c .before .read-line .ensures) ∙ call-in-line _ _ in
     (c .perform .ensures .0 ∙ read-steps (i .args .ledger) line h e, c .perform .ensures .1 ∙ read-replies (i .args .ledger) line h e)
 
 pub answer-line-spec : {M : Type 1} → statement M

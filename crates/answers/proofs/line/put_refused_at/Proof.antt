@@ -1,7 +1,7 @@
 -- `answers::line::put_refused_at` meets its contract: the puts in their order. Assumes nothing.
 use borrow.Author.Needs.{needs}
+use Rattle.text.proofs.Puts.{put-first, put-last}
 use Rattle.answers.specs.Answers.{replyParts}
-use Rattle.answers.proofs.Puts.{put-first, put-last}
 use Rattle.answers.proofs.line.put_refused_at.Statement.{statement}
 use Rattle.answers.proofs.line.put_refused_at.Tie as tie
 

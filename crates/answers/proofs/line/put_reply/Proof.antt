@@ -1,7 +1,7 @@
 -- `answers::line::put_reply` meets its contract: each case in turn. Assumes nothing.
 use borrow.Author.Needs.{needs}
+use Rattle.text.proofs.Puts.{put-first, put-last}
 use Rattle.answers.specs.Answers.{replyParts}
-use Rattle.answers.proofs.Puts.{put-first, put-last}
 use Rattle.answers.proofs.line.put_reply.Statement.{statement}
 use Rattle.answers.proofs.line.put_reply.Tie as tie
 

@@ -4,9 +4,9 @@ use mathlib.Core.Path.{ap, _∙_}
 use lib.ListN.{length}
 use mir.Syntax.{w64}
 use mir.ValLaws.{toZ-ofZ}
+use Rattle.text.specs.Parts.{Placed}
+use Rattle.text.proofs.Puts.{put-first, put-all, put-last, parts-length}
 use Rattle.answers.specs.Answers.{reportParts}
-use Rattle.answers.specs.Steps.{Placed}
-use Rattle.answers.proofs.Puts.{put-first, put-all, put-last, parts-length}
 use Rattle.answers.proofs.line.put_report.Statement.{statement}
 use Rattle.answers.proofs.line.put_report.Tie as tie
 

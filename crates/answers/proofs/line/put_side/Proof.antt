@@ -1,6 +1,6 @@
 -- `answers::line::put_side` meets its contract: the puts in their order. Assumes nothing.
 use borrow.Author.Needs.{needs}
-use Rattle.answers.proofs.Puts.{put-first, put-last}
+use Rattle.text.proofs.Puts.{put-first, put-last}
 use Rattle.answers.proofs.line.put_side.Statement.{statement}
 use Rattle.answers.proofs.line.put_side.Tie as tie
 

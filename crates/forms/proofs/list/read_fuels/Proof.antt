@@ -6,8 +6,9 @@ use native.Mathlib.Nat.{sub-zero}
 use native.Mathlib.Omega.{arith}
 use lib.ListN.{length, drop}
 use denote.Ref.{now}
+use Rattle.fuel.specs.Fuel.{noLine}
 use Rattle.forms.specs.Reading as reading
-use Rattle.forms.specs.Calls.{fittedLine, noLine}
+use Rattle.forms.specs.Calls.{fittedLine}
 use Rattle.forms.specs.Steps.{fuelMeaning}
 use Rattle.forms.proofs.Lists.{fuels-take, within-length, Amounts, left-whole, left-end, left-none, left-one}
 use Rattle.forms.proofs.list.read_fuels.Statement.{statement}
@@ -23,10 +24,13 @@ Inv-loop line at fuels₀ turn₀ fuels turn =
 abbrev μ-loop : tie.MeasureT-loop
 μ-loop line at fuels₀ turn₀ fuels turn = length line - turn
 
+empty-requires : tie.Need-empty-requires Inv-loop μ-loop
+empty-requires c κs = search needs
+
 loop-holds : tie.Need-loop-holds Inv-loop μ-loop
 loop-holds c =
-    let a = c .before .args in
-    (omega arith, refl, left-whole reading.fuels fittedLine noLine _ _ (rw sub-zero (within-length reading.fuels fuels-take (now (a .line)) (a .at))))
+    let a = c .before .before .args in
+    rw (c .empty .ensures) (omega arith, refl, left-whole reading.fuels fittedLine noLine _ _ (rw sub-zero (within-length reading.fuels fuels-take (now (a .line)) (a .at))))
 
 read-fuel-requires : tie.Need-read-fuel-requires Inv-loop μ-loop
 read-fuel-requires c κs = search needs
@@ -39,7 +43,7 @@ enum-told c = search needs
 
 returns : tie.Need-returns Inv-loop μ-loop
 returns c =
-    let s = now (c .before .before .before .before .before .before .args .line) in
+    let s = now (c .before .before .before .before .before .before .before .args .line) in
     let l = c .before .before .before .before .loop in
     left-none reading.fuels fittedLine noLine _ (l .fuels .count) (l .fuels .lines) _ _
     (sym (ap (fuelMeaning s) (c .enum-told .given .1)) ∙ c .before .before .read-fuel .ensures)
@@ -56,7 +60,7 @@ loop-less c = omega arith
 
 loop-again : tie.Need-loop-again Inv-loop μ-loop
 loop-again c =
-    let s = now (c .before .before .before .before .before .before .before .before .args .line) in
+    let s = now (c .before .before .before .before .before .before .before .before .before .args .line) in
     let l = c .before .before .before .before .before .before .loop in
     let w = c .with-fuel .ensures in (
       omega arith,
@@ -78,6 +82,7 @@ read-fuels-spec =
     (tie.spec
     Inv-loop
     μ-loop
+    empty-requires
     loop-holds
     read-fuel-requires
     enum-known-fuel

@@ -6,8 +6,9 @@ use native.Mathlib.Nat.{sub-zero}
 use native.Mathlib.Omega.{arith}
 use lib.ListN.{length, drop}
 use denote.Ref.{now}
+use Rattle.metering.specs.Energy.{noMeter}
 use Rattle.forms.specs.Reading as reading
-use Rattle.forms.specs.Calls.{meterOf, noMeter}
+use Rattle.forms.specs.Calls.{meterOf}
 use Rattle.forms.specs.Steps.{meterMeaning}
 use Rattle.forms.proofs.Lists.{meters-take, within-length, Amounts, left-whole, left-end, left-none, left-one}
 use Rattle.forms.proofs.list.read_meters.Statement.{statement}
@@ -23,13 +24,13 @@ Inv-loop line at meters₀ turn₀ meters turn =
 abbrev μ-loop : tie.MeasureT-loop
 μ-loop line at meters₀ turn₀ meters turn = length line - turn
 
-no-meter-requires : tie.Need-no-meter-requires Inv-loop μ-loop
-no-meter-requires c κs = search needs
+empty-requires : tie.Need-empty-requires Inv-loop μ-loop
+empty-requires c κs = search needs
 
 loop-holds : tie.Need-loop-holds Inv-loop μ-loop
 loop-holds c =
     let a = c .before .before .args in
-    rw (c .no-meter .ensures) (omega arith, refl, left-whole reading.meters meterOf noMeter _ _ (rw sub-zero (within-length reading.meters meters-take (now (a .line)) (a .at))))
+    rw (c .empty .ensures) (omega arith, refl, left-whole reading.meters meterOf noMeter _ _ (rw sub-zero (within-length reading.meters meters-take (now (a .line)) (a .at))))
 
 read-meter-requires : tie.Need-read-meter-requires Inv-loop μ-loop
 read-meter-requires c κs = search needs
@@ -81,7 +82,7 @@ read-meters-spec =
     (tie.spec
     Inv-loop
     μ-loop
-    no-meter-requires
+    empty-requires
     loop-holds
     read-meter-requires
     enum-known-meter
