@@ -1,4 +1,4 @@
--- What the steps of the code answer. Only their own contracts cite these.
+-- What the steps of the code answer. Only contracts of private functions cite these.
 use Prim.Native.Nat.{ℕ}
 use mathlib.Core.Bool.{cond}
 use mathlib.Core.List.{List, [], _∷_}

@@ -6,7 +6,8 @@ ghost use Rattle.report.specs.Answers.{answerMeaning, sideMeaning, reportIn, re
 ghost use Rattle.report.specs.Report.{refusedWith, refusedAt};
 ghost use Rattle.ledger.specs.Standing.{report};
 ghost use Rattle.ledger.specs.Operations.{reply};
-ghost use Rattle.forms.specs.Calls.{lineCall, callIn};
+ghost use Rattle.forms.specs.Calls.{lineCall};
+ghost use Rattle.forms.specs.Steps.{callIn};
 ghost use Rattle.answers.specs.Answers.{replyMeaning, sideParts, reportParts, replyParts};
 ghost use Rattle.answers.specs.Input.{lineStep, lineReply};
 use forms::Kind;

@@ -18,9 +18,9 @@ use Rattle.ledger.specs.Standing.{Call, enterGrid, enterPlant, enterSource}
 use Rattle.ledger.specs.Standing as call
 use Rattle.forms.specs.Form.{Form}
 use Rattle.forms.specs.Reading.{orElse, openingIn, isClosing, formIn}
-use Rattle.forms.specs.Calls.{fittedCall, callIn, plainLine, lineOf}
+use Rattle.forms.specs.Calls.{fittedCall, plainLine, lineOf}
 use Rattle.ledger.specs.Judging.{isThere}
-use Rattle.forms.specs.Steps.{found, withRest, openingMeaning}
+use Rattle.forms.specs.Steps.{found, callIn, withRest, openingMeaning}
 use Rattle.forms.specs.declared.Line.{Line}
 
 -- ---- the bracket that closes a form

@@ -99,20 +99,7 @@ fitted call.report = call.report
 abbrev pub fittedCall : Form → Call
 fittedCall f = fitted (callOf f)
 
--- ---- a line as it was read: its kind, its number, and an entry of each kind
-
--- The call that a line holds: its kind says which parts count.
-abbrev pub callBy : Kind → Line → Option Call
-callBy NoForm l = none
-callBy GridForm l = some (enterGrid (l .grid))
-callBy PlantForm l = some (enterPlant (l .number) (l .plant))
-callBy SourceForm l = some (enterSource (l .number) (l .source))
-callBy DropPlantForm l = some (call.dropPlant (l .number))
-callBy DropSourceForm l = some (call.dropSource (l .number))
-callBy ReportForm l = some call.report
-
-abbrev pub callIn : Line → Option Call
-callIn l = callBy (l .kind) l
+-- ---- a line as it was read: its kind, its number, and an entry of each kind, of which at most one counts
 
 -- The entries that do not count are the empty ones.
 abbrev pub emptyGrid : GridEntry

@@ -1,4 +1,4 @@
--- What the steps of the code answer. Only their own contracts cite these.
+-- What the steps of the code answer. Only contracts of private functions cite these.
 use Prim.Native.Nat.{ℕ}
 use mathlib.Core.Bool.{cond}
 use mathlib.Core.List.{List}
@@ -12,8 +12,8 @@ use Rattle.emissions.specs.declared.GridKind.{GridKind}
 use Rattle.emissions.specs.declared.Side.{Side}
 use Rattle.emissions.specs.declared.Supply.{Supply}
 use Rattle.emissions.specs.declared.Loss.{Loss}
-use Rattle.ledger.specs.Standing.{Call}
-use Rattle.forms.specs.Calls.{callIn}
+use Rattle.ledger.specs.Standing.{Call, enterGrid, enterPlant, enterSource}
+use Rattle.ledger.specs.Standing as call
 use Rattle.forms.specs.declared.part.KindRead.{KindRead}
 use Rattle.forms.specs.declared.part.KindRead.the-variants as kind
 use Rattle.forms.specs.declared.part.SideRead.{SideRead}
@@ -26,6 +26,8 @@ use Rattle.forms.specs.declared.part.MeterRead.{MeterRead}
 use Rattle.forms.specs.declared.part.MeterRead.the-variants as meter
 use Rattle.forms.specs.declared.part.FuelRead.{FuelRead}
 use Rattle.forms.specs.declared.part.FuelRead.the-variants as fuel
+use Rattle.forms.specs.declared.Kind.{Kind}
+use Rattle.forms.specs.declared.Kind.the-variants.{NoForm, GridForm, PlantForm, SourceForm, DropPlantForm, DropSourceForm, ReportForm}
 use Rattle.forms.specs.declared.Line.{Line}
 
 -- ---- what was read of the text s: the part, and what is left after its place
@@ -62,6 +64,19 @@ abbrev pub keptAt : {A : Type 0} → ℕ → List A → A → List A
 keptAt count parts part = cond (ltb count 4) (set parts count part) parts
 
 -- ---- the call of a line that was read
+
+-- The call that a line holds: its kind says which parts count.
+abbrev pub callBy : Kind → Line → Option Call
+callBy NoForm l = none
+callBy GridForm l = some (enterGrid (l .grid))
+callBy PlantForm l = some (enterPlant (l .number) (l .plant))
+callBy SourceForm l = some (enterSource (l .number) (l .source))
+callBy DropPlantForm l = some (call.dropPlant (l .number))
+callBy DropSourceForm l = some (call.dropSource (l .number))
+callBy ReportForm l = some call.report
+
+abbrev pub callIn : Line → Option Call
+callIn l = callBy (l .kind) l
 
 abbrev pub withRest : List ℕ → Option Call → ℕ → Option (Read Call)
 withRest s none next = none

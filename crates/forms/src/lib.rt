@@ -18,9 +18,9 @@ ghost use Rattle.forms.specs.Reading.{
   isClosing,
   formIn,
 };
-ghost use Rattle.forms.specs.Calls.{fittedCall, callIn, plainLine, lineOf};
+ghost use Rattle.forms.specs.Calls.{fittedCall, plainLine, lineOf};
 ghost use Rattle.ledger.specs.Judging.{isThere};
-ghost use Rattle.forms.specs.Steps.{openingMeaning};
+ghost use Rattle.forms.specs.Steps.{callIn, openingMeaning};
 use crate::list::read_fuels;
 use crate::list::read_meters;
 use crate::part::KindRead;

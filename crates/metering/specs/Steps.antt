@@ -1,4 +1,4 @@
--- What the steps inside this layer answer. Only their own contracts cite these; the rules are in `Reading` and `Energy`.
+-- What the steps inside this layer answer. Only contracts of private functions cite these; the rules are in `Reading` and `Energy`.
 use Prim.Native.Nat.{ℕ, zero, suc, _+_, _*_, _^_}
 use mathlib.Core.Bool.{cond}
 use mathlib.Core.List.{List}

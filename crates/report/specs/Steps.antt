@@ -1,4 +1,4 @@
--- What the steps inside the report answer. Only their own contracts cite these; the rules are in `Report`.
+-- What the steps inside the report answer. Only contracts of private functions cite these; the rules are in `Report`.
 use Prim.Native.Nat.{ℕ, _+_, _*_, _≤_}
 use mathlib.Core.Bool.{Bool, true, false, cond}
 use mathlib.Core.List.{List, map}

@@ -2,7 +2,7 @@
 use borrow.Author.Needs.{needs}
 use mathlib.Core.Path.{ap, _∙_}
 use denote.Ref.{now}
-use Rattle.forms.specs.Calls.{callIn}
+use Rattle.forms.specs.Steps.{callIn}
 use Rattle.forms.proofs.Lines.{call-in-line}
 use Rattle.answers.proofs.Forms.{long-line, read-steps, read-replies}
 use Rattle.answers.proofs.line.answer_line.Statement.{statement}
