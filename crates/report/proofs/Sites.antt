@@ -13,7 +13,7 @@ use Rattle.fuel.specs.declared.FuelLine.{FuelLine}
 use Rattle.fuel.proofs.Fuel.{line-over, line-conservative}
 use Rattle.emissions.proofs.Factors.{SiteSound}
 use Rattle.report.specs.Records.{PlainPlant, plainOf, linesOf}
-use Rattle.report.specs.Report.{Numbered, plantsIn, those, plantMilligrams, exactPlant, plantsAt, siteOf}
+use Rattle.report.specs.Report.{Numbered, plainAt, plantsIn, those, plantMilligrams, exactPlant, plantsAt, siteOf}
 use Rattle.report.specs.declared.records.Plant.{Plant}
 use Rattle.report.proofs.Lists.{never-some, standing-all, standing-length, those-all, those-length}
 
@@ -66,11 +66,10 @@ pub site-sound : (place : ℕ → Option Plant) → ((n : ℕ) (p : Plant) → p
     → SiteSound (siteOf (plantsIn place) S)
 unfolding siteOf
 site-sound place h S =
-    let at : ℕ → Option PlainPlant = λ n. Option·map plainOf (place n) in
     let ps = plantsAt S (plantsIn place) in
-    let short : length ps ≤ 8 = omega (arith, at-site-length S (plantsIn place), standing-length at 0 8) in
+    let short : length ps ≤ 8 = omega (arith, at-site-length S (plantsIn place), standing-length (plainAt place) 0 8) in
     let sound : All PlantSound ps =
-    at-site PlantSound S (plantsIn place) (standing-all at (λ (x : Numbered PlainPlant). PlantSound (x .item)) (λ n. read-sound (place n) (h n)) 0 8) in
+    at-site PlantSound S (plantsIn place) (standing-all (plainAt place) (λ (x : Numbered PlainPlant). PlantSound (x .item)) (λ n. read-sound (place n) (h n)) 0 8) in
     record {
       over = sum-over exactPlant ps (all-of plant-over ps);
       unsigned = sum-unsigned exactPlant ps (all-of plant-unsigned ps);

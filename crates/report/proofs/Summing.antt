@@ -27,7 +27,7 @@ use Rattle.emissions.specs.declared.Side.{Side}
 use Rattle.emissions.specs.declared.Supply.{Supply}
 use Rattle.rounding.proofs.Outcomes.{test-held}
 use Rattle.report.specs.Records.{PlainPlant, plainOf, siteFits, lossFits, lossMatches, linesOf, allWithinLimits, plantJudged, noPlant, noSource, plantIn, sourceIn, isGiven, plantIntact, sourceIntact, allIntact, plantPlace, sourcePlace}
-use Rattle.report.specs.Report.{Numbered, listed, standing, those, consumption, plantsAt}
+use Rattle.report.specs.Report.{Numbered, listed, standing, plainAt, those, consumption, plantsAt}
 use Rattle.report.specs.Steps.{ofDirection, share, joined, Small, withShare, addedAt}
 use Rattle.report.specs.declared.records.Plant.{Plant}
 use Rattle.report.specs.declared.records.Source.{Source}
@@ -141,9 +141,6 @@ site-adds S f i (some p) xs = go (eqb (p .site) S) refl
     go false e = rw e (omega arith)
 
 -- The sum over the plants at a site that stand under the numbers from i, of n.
-abbrev pub plainAt : (ℕ → Option Plant) → ℕ → Option PlainPlant
-plainAt place n = Option·map plainOf (place n)
-
 abbrev pub siteFrom : ℕ → (PlainPlant → ℕ) → (ℕ → Option Plant) → ℕ → ℕ → ℕ
 siteFrom S f place n i = sum (map f (plantsAt S (standing (plainAt place) i (n - i))))
 

@@ -49,8 +49,11 @@ standing place from (suc count) = listed from (place from) (standing place (suc 
 abbrev pub sourcesOf : Books → List (Numbered Source)
 sourcesOf b = standing (b .source) 0 32
 
+abbrev pub plainAt : (ℕ → Option Plant) → ℕ → Option PlainPlant
+plainAt place n = Option·map plainOf (place n)
+
 abbrev pub plantsIn : (ℕ → Option Plant) → List (Numbered PlainPlant)
-plantsIn place = standing (λ n. Option·map plainOf (place n)) 0 8
+plantsIn place = standing (plainAt place) 0 8
 
 abbrev pub plantsOf : Books → List (Numbered PlainPlant)
 plantsOf b = plantsIn (b .plant)
