@@ -182,9 +182,10 @@ static struct source source_of(uint32_t seed) {
     return s;
 }
 
-uint64_t plain_source(uint32_t times, uint32_t first, uint32_t last) {
+uint64_t plain_source(const uint32_t *words, uint32_t times, uint32_t first, uint32_t last) {
     struct ledger l;
     memset(&l, 0, sizeof l);
+    for (int i = 0; i < 8; i++) l.plants[i] = plant_of(words[1]);
     struct meter meter = {false, true, first, last}, meters[4] = {meter, meter, meter, meter};
     struct source s = {false, PROJECT, COMBINED, 0, DEFAULT20, 0, 0};
     uint64_t sum = 0;
@@ -192,7 +193,7 @@ uint64_t plain_source(uint32_t times, uint32_t first, uint32_t last) {
         int answer = enter_source(&l, i % 32, s, meters, 4);
         sum = (sum + answer + l.sources[i % 32].energy % 0x100000000ull) % 0x100000000ull;
     }
-    return sum;
+    return (sum + l.plants[times % 8].generation) % 0x100000000ull;
 }
 
 uint64_t plain_report(const uint32_t *words, uint32_t times) {

@@ -1,82 +1,120 @@
-// Prints the peak of the stack of each operation, the caller's ledger included: each is run on a stack
-// of its own that was painted before, and what is no longer painted was used. Prints the size of each
-// record too: what holding twice as many takes more, over how many more they are.
-#include <stddef.h>
-#include <stdint.h>
+// Prints the peak of the stack of each program and of each operation, the caller's ledger included: each is
+// run on a stack of its own that was painted before, and what is no longer painted was used. Prints the size
+// of each record too: what holding twice as many takes more, over how many more they are. Stops where the two
+// forms, on one record and by value, answer differently.
 #include <stdio.h>
 #include <stdlib.h>
 #include <string.h>
 #include <ucontext.h>
+#include "calls.h"
 
+typedef uint64_t on_words(const uint32_t *, size_t, uint32_t);
+on_words owner_grid, owner_plant, owner_drop_plant, owner_drop_source;
+on_words value_grid, value_plant, value_drop_plant, value_drop_source;
+on_words measure_report, hold_64_sources, hold_128_sources, hold_64_plants, hold_128_plants, hold_8_ledgers, hold_16_ledgers;
+uint64_t owner_source(const uint32_t *, size_t, uint32_t, uint32_t, uint32_t);
+uint64_t value_source(const uint32_t *, size_t, uint32_t, uint32_t, uint32_t);
+uint64_t owner_program(const uint32_t *, size_t);
+uint64_t value_program(const uint32_t *, size_t);
 uint64_t measure_new(uint32_t);
-uint64_t measure_grid(const uint32_t *, size_t, uint32_t);
-uint64_t measure_plant(const uint32_t *, size_t, uint32_t);
-uint64_t measure_source(const uint32_t *, size_t, uint32_t, uint32_t, uint32_t);
-uint64_t measure_drop_plant(const uint32_t *, size_t, uint32_t);
-uint64_t measure_drop_source(const uint32_t *, size_t, uint32_t);
-uint64_t measure_report(const uint32_t *, size_t, uint32_t);
-uint64_t hold_64_sources(const uint32_t *, size_t, uint32_t);
-uint64_t hold_128_sources(const uint32_t *, size_t, uint32_t);
-uint64_t hold_64_plants(const uint32_t *, size_t, uint32_t);
-uint64_t hold_128_plants(const uint32_t *, size_t, uint32_t);
-uint64_t hold_8_ledgers(const uint32_t *, size_t, uint32_t);
-uint64_t hold_16_ledgers(const uint32_t *, size_t, uint32_t);
 
-static volatile uint64_t answer;
 static volatile uint32_t one = 1;
-static uint32_t words[32];
+static uint32_t words[32], calls[CALLS * CALL_WORDS];
+
+static uint64_t new_ledger(const uint32_t *w, size_t n, uint32_t at) { return (void)w, (void)n, measure_new(at); }
+static uint64_t owner_singles(const uint32_t *w, size_t n, uint32_t times) { return owner_source(w, n, times, 0x42f6e979, 0x47f12080); }
+static uint64_t value_singles(const uint32_t *w, size_t n, uint32_t times) { return value_source(w, n, times, 0x42f6e979, 0x47f12080); }
+static uint64_t owner_calls(const uint32_t *w, size_t n, uint32_t times) { return (void)w, (void)n, (void)times, owner_program(calls, CALLS * CALL_WORDS); }
+static uint64_t value_calls(const uint32_t *w, size_t n, uint32_t times) { return (void)w, (void)n, (void)times, value_program(calls, CALLS * CALL_WORDS); }
+
+// ---- a painted stack
+
+enum { SIZE = 1 << 20 };
 static ucontext_t back, measured;
+static on_words *operation;
+static volatile uint64_t answer;
 
 static void nothing(void) {}
-static void new_ledger(void) { answer = measure_new(one); }
-static void enter_grid(void) { answer = measure_grid(words, 32, one); }
-static void enter_plant(void) { answer = measure_plant(words, 32, one); }
-static void enter_source(void) { answer = measure_source(words, 32, one, 0x42f6e979, 0x47f12080); }
-static void drop_plant(void) { answer = measure_drop_plant(words, 32, one); }
-static void drop_source(void) { answer = measure_drop_source(words, 32, one); }
-static void report(void) { answer = measure_report(words, 32, one); }
-static void sources(void) { answer = hold_64_sources(words, 32, one); }
-static void twice_sources(void) { answer = hold_128_sources(words, 32, one); }
-static void plants(void) { answer = hold_64_plants(words, 32, one); }
-static void twice_plants(void) { answer = hold_128_plants(words, 32, one); }
-static void ledgers(void) { answer = hold_8_ledgers(words, 32, one); }
-static void twice_ledgers(void) { answer = hold_16_ledgers(words, 32, one); }
+static void operate(void) { answer = operation(words, 32, one); }
 
-enum { SIZE = 1 << 20, PAINT = 0xA5 };
-
-static size_t used(void (*operation)(void)) {
+static size_t no_longer_painted(void (*run)(void), int paint) {
     unsigned char *stack = malloc(SIZE);
-    memset(stack, PAINT, SIZE);
+    memset(stack, paint, SIZE);
     getcontext(&measured);
     measured.uc_stack.ss_sp = stack;
     measured.uc_stack.ss_size = SIZE;
     measured.uc_link = &back;
-    makecontext(&measured, operation, 0);
+    makecontext(&measured, run, 0);
     swapcontext(&back, &measured);
     size_t free_bytes = 0;
-    while (free_bytes < SIZE && stack[free_bytes] == PAINT) free_bytes++;
+    while (free_bytes < SIZE && stack[free_bytes] == paint) free_bytes++;
     free(stack);
     return SIZE - free_bytes;
 }
 
+// With two paints, since the last byte may have the colour of one by chance.
+static size_t peak(void (*run)(void)) {
+    size_t first = no_longer_painted(run, 0xA5), second = no_longer_painted(run, 0x5B);
+    return first > second ? first : second;
+}
+
+static size_t used(on_words *measured_operation) {
+    operation = measured_operation;
+    return peak(operate) - peak(nothing);
+}
+
+// ---- the list of calls
+
+static void stop(const char *what) {
+    printf("%s\n", what);
+    exit(1);
+}
+
+// The answer to a call is what the program's answers to the list up to it and to the list before it differ by:
+// 0 or the number of a refusal, and for a report its grams.
+static void compare_programs(void) {
+    size_t accepted = 0, refused = 0, given = 0, not_given = 0;
+    uint64_t before = 0;
+    for (size_t i = 0; i < CALLS; i++) {
+        uint64_t sum = owner_program(calls, (i + 1) * CALL_WORDS);
+        if (sum != value_program(calls, (i + 1) * CALL_WORDS)) stop("the two programs answer differently");
+        uint32_t told = (uint32_t)(sum - before);
+        bool report = calls[i * CALL_WORDS] % 10 == REPORT;
+        if (report && told == 1) stop("a report finds its ledger damaged");
+        if (report && told > 1 && told < 256) not_given++;
+        else if (report) given++;
+        else if (told) refused++;
+        else accepted++;
+        before = sum;
+    }
+    printf("the programs' list: %d calls; %zu entries and drops accepted, %zu refused; %zu reports given, %zu refused\n", CALLS, accepted,
+           refused, given, not_given);
+    if (!accepted || !refused || !given || !not_given) stop("a kind of answer is missing");
+}
+
 int main(void) {
-    struct { const char *name; void (*operation)(void); } operations[] = {
-        {"Ledger::new", new_ledger},   {"enter_grid", enter_grid},     {"enter_plant", enter_plant}, {"enter_source", enter_source},
-        {"drop_plant", drop_plant},    {"drop_source", drop_source},   {"report", report},
+    struct { const char *name; on_words *owner, *value; } pairs[] = {
+        {"program", owner_calls, value_calls},          {"enter grid", owner_grid, value_grid},
+        {"enter plant", owner_plant, value_plant},      {"enter source", owner_singles, value_singles},
+        {"drop plant", owner_drop_plant, value_drop_plant}, {"drop source", owner_drop_source, value_drop_source},
+    };
+    struct { const char *name; on_words *some, *twice; size_t count; } records[] = {
+        {"source record", hold_64_sources, hold_128_sources, 64},
+        {"plant record", hold_64_plants, hold_128_plants, 64},
+        {"ledger", hold_8_ledgers, hold_16_ledgers, 8},
     };
     for (uint32_t i = 0; i < 32; i++) words[i] = 4 * one;
-    size_t base = used(nothing);
-    for (size_t i = 0; i < sizeof operations / sizeof *operations; i++) {
-        size_t bytes = used(operations[i].operation) - base;
-        printf("%-14s %5zu bytes (answer %llu)\n", operations[i].name, bytes, (unsigned long long)answer);
+    put_calls(calls);
+    compare_programs();
+    printf("%-14s %10s %8s\n", "stack, bytes", "one record", "by value");
+    for (size_t i = 0; i < sizeof pairs / sizeof *pairs; i++) {
+        if (pairs[i].owner(words, 32, 100) != pairs[i].value(words, 32, 100)) stop("the two forms answer differently");
+        printf("%-14s %10zu %8zu\n", pairs[i].name, used(pairs[i].owner), used(pairs[i].value));
     }
-    struct { const char *name; size_t count; void (*some)(void), (*twice)(void); } records[] = {
-        {"source record", 64, sources, twice_sources}, {"plant record", 64, plants, twice_plants}, {"ledger", 8, ledgers, twice_ledgers},
-    };
-    puts("sizes:");
-    for (size_t i = 0; i < sizeof records / sizeof *records; i++) {
-        size_t more = used(records[i].twice) - used(records[i].some);
-        printf("%-14s %5zu bytes (%zu more take %zu)\n", records[i].name, more / records[i].count, records[i].count, more);
-    }
+    printf("%-14s %10zu\n", "report", used(measure_report));
+    printf("%-14s %10zu\n", "Ledger::new", used(new_ledger));
+    printf("%-14s\n", "size, bytes");
+    for (size_t i = 0; i < sizeof records / sizeof *records; i++)
+        printf("%-14s %10zu\n", records[i].name, (used(records[i].twice) - used(records[i].some)) / records[i].count);
     return 0;
 }

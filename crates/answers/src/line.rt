@@ -14,10 +14,10 @@ use forms::Kind;
 use forms::Line;
 use ledger::Entered;
 use ledger::Ledger;
+use records::Answer;
 use report::Report;
 use report::Reported;
 use report::SideReport;
-use report::records::Answer;
 
 // The answer to a line.
 pub enum Reply {

@@ -23,13 +23,13 @@ use Rattle.emissions.specs.declared.Supply.{Supply}
 use Rattle.emissions.specs.declared.Supply.the-variants.{Combined, GridDefault, Captive, CaptiveDefault, Either}
 use Rattle.emissions.specs.declared.Loss.{Loss}
 use Rattle.emissions.specs.declared.Loss.the-variants.{Nothing, Measured, Default20, Default3}
-use Rattle.ledger.specs.Judging.{gridJudged, sourceJudged, dropJudged}
-use Rattle.report.specs.Records.{linesOf, allWithinLimits, plantJudged, siteFits, lossFits, noPlant, noSource}
-use Rattle.ledger.specs.Standing.{whereGiven, answer}
+use Rattle.records.specs.Judging.{gridJudged, sourceJudged, isThere, dropJudged, linesOf, allWithinLimits, plantJudged, siteFits, lossFits, whereGiven}
+use Rattle.records.specs.Records.{noPlant, noSource, plantRecord, sourceRecord}
+use Rattle.ledger.specs.Standing.{answer}
 use Rattle.report.specs.Report.{acknowledged}
 use Rattle.ledger.specs.Operations.{recorded, withPlant, withSource, step, reply}
-use Rattle.report.specs.declared.records.Plant.{Plant}
-use Rattle.ledger.specs.declared.SourceEntry.{SourceEntry}
+use Rattle.records.specs.declared.Plant.{Plant}
+use Rattle.records.specs.declared.SourceEntry.{SourceEntry}
 use Rattle.ledger.specs.declared.Ledger.{Ledger}
 use Rattle.ledger.proofs.Entries.{plant-facts, source-facts, drop-facts}
 use Rattle.forms.specs.Form.{Form, grid, plant, source, dropSource, dropPlant, report}
@@ -224,7 +224,8 @@ source-same n e =
 
 -- ---- a drop
 
-drop-same : {A : Type 0} (last : ℕ) (place : ℕ → Option A) (n : ℕ) → last < 255 → dropJudged last place (byteField n) ≡ dropJudged last place n
+drop-same : {A : Type 0} (last : ℕ) (place : ℕ → Option A) (n : ℕ) → last < 255
+    → dropJudged last (isThere (place (byteField n))) (byteField n) ≡ dropJudged last (isThere (place n)) n
 unfolding dropJudged
 drop-same last place n h =
     test-same 1 _ (leb n last) _ _ (same-limit 255 last n h) (λ e. rw (unchanged 255 last n (omega arith) e))
@@ -244,15 +245,15 @@ pub fitted-steps : (l : Ledger) (f : Form) → step l (fitted (callOf f)) ≡ st
 unfolding step fitted callOf
 fitted-steps l (grid F kind) = stored-same _ _ l (grid-same (record { margin = F; kind = kind })) (λ a e. refl)
 fitted-steps l (plant N S G lines) =
-    stored-same _ (λ a. withPlant l N (record { stands = true; plant = a })) l (plant-same N S G lines)
+    stored-same _ (λ a. withPlant l N (plantRecord a)) l (plant-same N S G lines)
     (λ a e. rw (within 255 N (omega (arith, plant-facts N _ a e .1 .number))))
 fitted-steps l (source N side supply loss meters) =
-    stored-same _ (λ a. withSource l N (record { stands = true; source = a })) l (source-same N _)
+    stored-same _ (λ a. withSource l N (sourceRecord a)) l (source-same N _)
     (λ a e. rw (within 255 N (omega (arith, source-facts N _ a e .1 .number))))
 fitted-steps l (dropSource N) =
     stored-same _ (λ a. withSource l N noSource) l (drop-same 31 (recorded l .source) N (omega arith))
-    (λ a e. rw (within 255 N (omega (arith, drop-facts 31 (recorded l .source) N a e))))
+    (λ a e. rw (within 255 N (omega (arith, drop-facts 31 _ N a e))))
 fitted-steps l (dropPlant N) =
     stored-same _ (λ a. withPlant l N noPlant) l (drop-same 7 (recorded l .plant) N (omega arith))
-    (λ a e. rw (within 255 N (omega (arith, drop-facts 7 (recorded l .plant) N a e))))
+    (λ a e. rw (within 255 N (omega (arith, drop-facts 7 _ N a e))))
 fitted-steps l report = refl

@@ -19,7 +19,7 @@ use Rattle.ledger.specs.Standing as call
 use Rattle.forms.specs.Form.{Form}
 use Rattle.forms.specs.Reading.{orElse, openingIn, isClosing, formIn}
 use Rattle.forms.specs.Calls.{fittedCall, plainLine, lineOf}
-use Rattle.ledger.specs.Judging.{isThere}
+use Rattle.records.specs.Judging.{isThere}
 use Rattle.forms.specs.Steps.{found, callIn, withRest, openingMeaning}
 use Rattle.forms.specs.declared.Line.{Line}
 

@@ -22,8 +22,8 @@ use Rattle.emissions.specs.declared.Loss.{Loss}
 use Rattle.emissions.specs.declared.Loss.the-variants.{Nothing, Measured, Default20, Default3}
 use Rattle.ledger.specs.Standing.{Call, enterGrid, enterPlant, enterSource}
 use Rattle.ledger.specs.Standing as call
-use Rattle.report.specs.declared.records.Plant.{Plant}
-use Rattle.ledger.specs.declared.SourceEntry.{SourceEntry}
+use Rattle.records.specs.declared.Plant.{Plant}
+use Rattle.records.specs.declared.SourceEntry.{SourceEntry}
 use Rattle.forms.specs.Form.{MeterForm, whole, single, Form, grid, plant, source, dropSource, dropPlant, report}
 use Rattle.forms.specs.Reading.{lineForm}
 use Rattle.forms.specs.declared.Kind.{Kind}

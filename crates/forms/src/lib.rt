@@ -19,7 +19,7 @@ ghost use Rattle.forms.specs.Reading.{
   formIn,
 };
 ghost use Rattle.forms.specs.Calls.{fittedCall, plainLine, lineOf};
-ghost use Rattle.ledger.specs.Judging.{isThere};
+ghost use Rattle.records.specs.Judging.{isThere};
 ghost use Rattle.forms.specs.Steps.{callIn, openingMeaning};
 use crate::list::read_fuels;
 use crate::list::read_meters;
@@ -39,9 +39,9 @@ use emissions::Loss;
 use emissions::Side;
 use emissions::Supply;
 use fuel::FuelLine;
-use ledger::SourceEntry;
 use metering::Meter;
-use report::records::Plant;
+use records::Plant;
+use records::SourceEntry;
 use text::Match;
 
 // The kinds of lines.

@@ -34,14 +34,13 @@ use Rattle.emissions.specs.declared.Supply.the-variants.{Combined, GridDefault,
 use Rattle.emissions.specs.declared.Loss.{Loss}
 use Rattle.emissions.specs.declared.Loss.the-variants.{Nothing, Measured, Default20, Default3}
 use Rattle.emissions.specs.declared.Consumption.{Consumption}
-use Rattle.ledger.specs.Judging.{gridJudged, onRead, onEnergy, kept, sourceJudged, isThere, dropJudged}
-use Rattle.report.specs.Records.{linesOf, allWithinLimits, plantJudged, siteFits, lossFits, lossMatches}
+use Rattle.records.specs.Judging.{gridJudged, onRead, onEnergy, kept, sourceJudged, isThere, dropJudged, linesOf, allWithinLimits, plantJudged, siteFits, lossFits, lossMatches}
 use Rattle.report.specs.Report.{Books, Numbered, listed, standing, sourcesOf, plantsOf, siteOf, sourceFigure, Figured, Figures, declined, figured, withFigure, joined, figuresFrom, ofSide, SideReport, sideFits, sideReport, reduction, Report, reportFrom, allFit, Reply, ok, refusedWith, refusedAt, reported, damaged, replyFrom, reportOf, checkedReportOf, acknowledged, intact}
 use Rattle.ledger.specs.Standing.{Call, enterGrid, enterPlant, enterSource, dropPlant, dropSource, report, answer}
 use Rattle.ledger.specs.Operations.{recorded, reply}
-use Rattle.report.specs.declared.records.Plant.{Plant}
-use Rattle.ledger.specs.declared.SourceEntry.{SourceEntry}
-use Rattle.report.specs.declared.records.Source.{Source}
+use Rattle.records.specs.declared.Plant.{Plant}
+use Rattle.records.specs.declared.SourceEntry.{SourceEntry}
+use Rattle.records.specs.declared.Source.{Source}
 use Rattle.ledger.specs.declared.Ledger.{Ledger}
 use Rattle.report.proofs.Lists.{numbered, those-length}
 use Rattle.ledger.proofs.Sides.{reduction-differ}
@@ -86,10 +85,10 @@ plant-low n p =
     (unless-low 2 (leb (p .count) 4 && leb (p .generation) 100000000 && allWithinLimits (linesOf p)) _ (omega arith)
     (given-low p))
 
-drop-low : {A : Type 0} (last : ℕ) (place : ℕ → Option A) (n : ℕ) → Low (dropJudged last place n)
+drop-low : (last : ℕ) (stands : Bool) (n : ℕ) → Low (dropJudged last stands n)
 unfolding dropJudged
-drop-low last place n =
-    unless-low 1 (leb n last) _ (omega arith) (unless-low 7 (isThere (place n)) _ (omega arith) (given-low tt))
+drop-low last stands n =
+    unless-low 1 (leb n last) _ (omega arith) (unless-low 7 stands _ (omega arith) (given-low tt))
 
 meters-low : (dir : Direction) (c : ℕ) (ms : List Meter) → metersRefusal (judgedMeters dir c ms) < 100
 unfolding judgedMeters judgedReadings
@@ -271,8 +270,8 @@ unfolding reply answer
 reply-plain l (enterGrid g) = inr (acknowledged-plain _ (grid-low g))
 reply-plain l (enterPlant n p) = inr (acknowledged-plain _ (plant-low n p))
 reply-plain l (enterSource n e) = inr (acknowledged-plain _ (source-low n e))
-reply-plain l (dropPlant n) = inr (acknowledged-plain _ (drop-low 7 (recorded l .plant) n))
-reply-plain l (dropSource n) = inr (acknowledged-plain _ (drop-low 31 (recorded l .source) n))
+reply-plain l (dropPlant n) = inr (acknowledged-plain _ (drop-low 7 (isThere (recorded l .plant n)) n))
+reply-plain l (dropSource n) = inr (acknowledged-plain _ (drop-low 31 (isThere (recorded l .source n)) n))
 reply-plain l report = inl refl
 
 report-of-small : (b : Books) → Small (reportOf b)

@@ -18,20 +18,23 @@ use Rattle.emissions.specs.declared.GridEntry.{GridEntry}
 use Rattle.emissions.specs.declared.Grid.{Grid}
 use Rattle.emissions.specs.declared.Grid.the-variants.{Absent, Entered}
 use Rattle.emissions.proofs.Factors.{GridSound}
-use Rattle.ledger.specs.Judging.{gridJudged, sourceJudged, isThere, dropJudged}
-use Rattle.report.specs.Records.{plantJudged, noPlant, noSource, plantIn, sourceIn, gridIntact, plantIntact, sourceIntact, allIntact}
+use Rattle.records.specs.Judging.{gridJudged, sourceJudged, isThere, dropJudged, plantJudged, whereGiven}
+use Rattle.records.specs.Records.{noGrid, noPlant, noSource, gridRecord, plantRecord, sourceRecord, plantIn, sourceIn}
+use Rattle.report.specs.Intact.{gridIntact, plantIntact, sourceIntact, allIntact}
 use Rattle.report.specs.Report.{Books, Report, Reply, reported, damaged, reportOf, checkedReportOf, acknowledged, intact}
-use Rattle.ledger.specs.Standing.{Call, enterGrid, enterPlant, enterSource, dropPlant, dropSource, report, Standing, nothing, put, whereGiven, after, keptOf, books, answer}
-use Rattle.ledger.specs.Operations.{newLedger, recorded, withPlant, withSource, step, reply}
-use Rattle.ledger.specs.Claim.{Claim, Demand3}
-use Rattle.report.specs.declared.records.Plant.{Plant}
-use Rattle.ledger.specs.declared.SourceEntry.{SourceEntry}
-use Rattle.report.specs.declared.records.Source.{Source}
-use Rattle.report.specs.declared.records.PlantRecord.{PlantRecord}
-use Rattle.report.specs.declared.records.SourceRecord.{SourceRecord}
+use Rattle.ledger.specs.Standing.{Call, enterGrid, enterPlant, enterSource, dropPlant, dropSource, report, Standing, nothing, put, after, keptOf, books, answer}
+use Rattle.ledger.specs.Operations.{newLedger, recorded, withGrid, withPlant, withSource, step, reply}
+use Rattle.ledger.specs.Owner.{ownerStep, ownerReply}
+use Rattle.ledger.specs.Claim.{Claim, Demand3, OwnerDemand3}
+use Rattle.records.specs.declared.Plant.{Plant}
+use Rattle.records.specs.declared.SourceEntry.{SourceEntry}
+use Rattle.records.specs.declared.Source.{Source}
+use Rattle.records.specs.declared.PlantRecord.{PlantRecord}
+use Rattle.records.specs.declared.SourceRecord.{SourceRecord}
 use Rattle.ledger.specs.declared.Ledger.{Ledger}
 use Rattle.ledger.proofs.Entries.{grid-facts, PlantFacts, plant-facts, SourceFacts, source-facts, drop-facts}
 use Rattle.report.proofs.Lists.{never-some}
+use Rattle.ledger.proofs.Stores.{owner-stores, owner-answers}
 use Rattle.ledger.proofs.Figures.{Accepted, report-safe}
 
 -- The ledger shows what stands, and what stands was accepted.
@@ -73,7 +76,7 @@ kept-put place n v k = go (eqb k n)
 
 module _ (l : Ledger) (s : Standing) (h : Agree l s) where
   grid-entered : (g : GridEntry) → g .margin ≤ factorLimit
-      → Agree (record { grid = Entered g; plants = l .plants; sources = l .sources }) (record { grid = Entered g; plant = s .plant; source = s .source })
+      → Agree (withGrid l (gridRecord g)) (record { grid = Entered g; plant = s .plant; source = s .source })
   grid-entered g fits =
       record {
         plants = h .plants;
@@ -89,7 +92,7 @@ module _ (l : Ledger) (s : Standing) (h : Agree l s) where
         plants = simp length-set (h .plants);
         sources = h .sources;
         same =
-            ap (λ (f : ℕ → Option Plant). record { grid = l .grid; plant = f; source = recorded l .source })
+            ap (λ (f : ℕ → Option Plant). record { grid = l .grid .grid; plant = f; source = recorded l .source })
             (fun-ext (λ k. set-place plantIn noPlant (l .plants) n r k (omega (arith, h .plants))))
             ∙ ap (λ (b : Books). record { grid = b .grid; plant = put (b .plant) n (plantIn r); source = b .source }) (h .same);
         accepted =
@@ -107,7 +110,7 @@ module _ (l : Ledger) (s : Standing) (h : Agree l s) where
         plants = h .plants;
         sources = simp length-set (h .sources);
         same =
-            ap (λ (f : ℕ → Option Source). record { grid = l .grid; plant = recorded l .plant; source = f })
+            ap (λ (f : ℕ → Option Source). record { grid = l .grid .grid; plant = recorded l .plant; source = f })
             (fun-ext (λ k. set-place sourceIn noSource (l .sources) n r k (omega (arith, h .sources))))
             ∙ ap (λ (b : Books). record { grid = b .grid; plant = b .plant; source = put (b .source) n (sourceIn r) }) (h .same)
             ∙ ap (λ (o : Option Source). record { grid = s .grid; plant = s .plant; source = put (λ j. keptOf (s .source j)) n o }) shows
@@ -125,60 +128,57 @@ there : (o : Option SourceEntry) → isThere (keptOf o) ≡ isThere o
 there none = refl
 there (some e) = refl
 
-drop-same : (s : Standing) (n : ℕ) → dropJudged 31 (books s .source) n ≡ dropJudged 31 (s .source) n
-unfolding dropJudged
-drop-same s n = rw (there (s .source n))
-
 keeps : (l : Ledger) (s : Standing) (c : Call) → Agree l s → Agree (step l c) (after s c)
 unfolding step after noPlant noSource
 keeps l s (enterGrid g) h = go (gridJudged g) refl
   where
     go : (o : Outcome GridEntry) → gridJudged g ≡ o
-        → Agree (whereGiven o (λ a. record { grid = Entered a; plants = l .plants; sources = l .sources }) l)
+        → Agree (whereGiven o (λ a. withGrid l (gridRecord a)) l)
         (whereGiven o (λ a. record { grid = Entered g; plant = s .plant; source = s .source }) s)
     go (refused k) e = h
     go (given a) e =
         let f = grid-facts g a e in
-        subst (λ (x : GridEntry). Agree (record { grid = Entered x; plants = l .plants; sources = l .sources }) (record { grid = Entered g; plant = s .plant; source = s .source }))
+        subst (λ (x : GridEntry). Agree (withGrid l (gridRecord x)) (record { grid = Entered g; plant = s .plant; source = s .source }))
         (sym (f .0)) (grid-entered l s h g (f .1))
 keeps l s (enterPlant n p) h = go (plantJudged n p) refl
   where
     go : (o : Outcome Plant) → plantJudged n p ≡ o
-        → Agree (whereGiven o (λ a. withPlant l n (record { stands = true; plant = a })) l)
+        → Agree (whereGiven o (λ a. withPlant l n (plantRecord a)) l)
         (whereGiven o (λ a. record { grid = s .grid; plant = put (s .plant) n (some p); source = s .source }) s)
     go (refused k) e = h
     go (given a) e =
         let f = plant-facts n p a e in
-        subst (λ (x : Plant). Agree (withPlant l n (record { stands = true; plant = x })) (record { grid = s .grid; plant = put (s .plant) n (some p); source = s .source }))
+        subst (λ (x : Plant). Agree (withPlant l n (plantRecord x)) (record { grid = s .grid; plant = put (s .plant) n (some p); source = s .source }))
         (sym (f .0))
-        (plant-put l s h n (record { stands = true; plant = p }) (f .1 .number)
+        (plant-put l s h n (plantRecord p) (f .1 .number)
         (λ q w. subst (PlantFacts n) (Option·some-injective p q w) (f .1)))
 keeps l s (enterSource n e) h = go (sourceJudged n e) refl
   where
     go : (o : Outcome Source) → sourceJudged n e ≡ o
-        → Agree (whereGiven o (λ a. withSource l n (record { stands = true; source = a })) l)
+        → Agree (whereGiven o (λ a. withSource l n (sourceRecord a)) l)
         (whereGiven o (λ a. record { grid = s .grid; plant = s .plant; source = put (s .source) n (some e) }) s)
     go (refused k) q = h
     go (given a) q =
         let f = source-facts n e a q in
-        source-put l s h n (record { stands = true; source = a }) (some e) (f .1 .number) (ap some (f .0))
+        source-put l s h n (sourceRecord a) (some e) (f .1 .number) (ap some (f .0))
         (λ d w. subst (SourceFacts n) (Option·some-injective e d w) (f .1))
 keeps l s (dropPlant n) h =
     subst (λ (o : Outcome (Unit {0})). Agree (whereGiven o (λ a. withPlant l n noPlant) l) (after s (dropPlant n)))
-    (sym (ap (λ (b : Books). dropJudged 7 (b .plant) n) (h .same))) (go (dropJudged 7 (s .plant) n) refl)
+    (sym (ap (λ (b : Books). dropJudged 7 (isThere (b .plant n)) n) (h .same))) (go (dropJudged 7 (isThere (s .plant n)) n) refl)
   where
-    go : (o : Outcome (Unit {0})) → dropJudged 7 (s .plant) n ≡ o
+    go : (o : Outcome (Unit {0})) → dropJudged 7 (isThere (s .plant n)) n ≡ o
         → Agree (whereGiven o (λ a. withPlant l n noPlant) l) (whereGiven o (λ a. record { grid = s .grid; plant = put (s .plant) n none; source = s .source }) s)
     go (refused k) e = h
-    go (given u) e = plant-put l s h n noPlant (drop-facts 7 (s .plant) n u e) (λ p w. absurd (never-some w))
+    go (given u) e = plant-put l s h n noPlant (drop-facts 7 _ n u e) (λ p w. absurd (never-some w))
 keeps l s (dropSource n) h =
     subst (λ (o : Outcome (Unit {0})). Agree (whereGiven o (λ a. withSource l n noSource) l) (after s (dropSource n)))
-    (sym (ap (λ (b : Books). dropJudged 31 (b .source) n) (h .same) ∙ drop-same s n)) (go (dropJudged 31 (s .source) n) refl)
+    (sym (ap (λ (b : Books). dropJudged 31 (isThere (b .source n)) n) (h .same) ∙ ap (λ (t : Bool). dropJudged 31 t n) (there (s .source n))))
+    (go (dropJudged 31 (isThere (s .source n)) n) refl)
   where
-    go : (o : Outcome (Unit {0})) → dropJudged 31 (s .source) n ≡ o
+    go : (o : Outcome (Unit {0})) → dropJudged 31 (isThere (s .source n)) n ≡ o
         → Agree (whereGiven o (λ a. withSource l n noSource) l) (whereGiven o (λ a. record { grid = s .grid; plant = s .plant; source = put (s .source) n none }) s)
     go (refused k) e = h
-    go (given u) e = source-put l s h n noSource none (drop-facts 31 (s .source) n u e) refl (λ d w. absurd (never-some w))
+    go (given u) e = source-put l s h n noSource none (drop-facts 31 _ n u e) refl (λ d w. absurd (never-some w))
 keeps l s report h = h
 
 -- ---- each answer is the one that the rules fix, and each report given is safe
@@ -231,8 +231,8 @@ unfolding reply answer
 good l s (enterGrid g) h = acknowledged-good l s h (enterGrid g) (gridJudged g) refl
 good l s (enterPlant n p) h = acknowledged-good l s h (enterPlant n p) (plantJudged n p) refl
 good l s (enterSource n a) h = acknowledged-good l s h (enterSource n a) (sourceJudged n a) refl
-good l s (dropPlant n) h = acknowledged-good l s h (dropPlant n) (dropJudged 7 (recorded l .plant) n) refl
-good l s (dropSource n) h = acknowledged-good l s h (dropSource n) (dropJudged 31 (recorded l .source) n) refl
+good l s (dropPlant n) h = acknowledged-good l s h (dropPlant n) (dropJudged 7 (isThere (recorded l .plant n)) n) refl
+good l s (dropSource n) h = acknowledged-good l s h (dropSource n) (dropJudged 31 (isThere (recorded l .source n)) n) refl
 good l s report h =
     record { answered = report-answered l s h; safe = λ r e. report-safe s (h .accepted) r (sym (report-answered l s h) ∙ e) }
 
@@ -244,7 +244,7 @@ empty-places read d e (suc k) zero = e
 empty-places read d e (suc k) (suc n) = empty-places read d e k n
 
 start : Agree newLedger nothing
-unfolding newLedger noPlant noSource
+unfolding newLedger noGrid noPlant noSource
 start =
     record {
       plants = refl;
@@ -263,6 +263,13 @@ start =
 -- Demand 3: for every list of calls from a new ledger.
 pub demand-3 : (calls : List Call) → Demand3 calls
 demand-3 calls = calls-held step reply after Claim Agree keeps good newLedger nothing start calls
+
+-- And for every list of calls to an owner who stores the record that each operation keeps.
+pub owner-demand-3 : (calls : List Call) → OwnerDemand3 calls
+owner-demand-3 calls =
+    calls-held ownerStep ownerReply after Claim Agree
+    (λ l s c h. subst (λ (x : Ledger). Agree x (after s c)) (sym (owner-stores l c)) (keeps l s c h))
+    (λ l s c h. subst (Claim s c) (sym (owner-answers l c)) (good l s c h)) newLedger nothing start calls
 
 -- The claim at one place of the list, for what stands there.
 pub claim-at : (calls : List Call) (i : ℕ) → i < length calls → (c : Call) (a : Reply)

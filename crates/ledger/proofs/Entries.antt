@@ -1,8 +1,8 @@
 -- What an accepted entry gives: the entry itself, within its limits, and a source's energy near the exact one. Assumes nothing.
 use Prim.Native.Nat.{ℕ, _≤_}
 use mathlib.Core.Path.{_≡_, refl, sym, _∙_}
-use mathlib.Core.Bool.{true, _&&_}
-use mathlib.Core.Option.{Option, some}
+use mathlib.Core.Bool.{Bool, true, _&&_}
+use mathlib.Core.Option.{some}
 use native.Mathlib.Omega.{arith}
 use lib.Dec.{leb}
 use lib.ListN.{length}
@@ -21,13 +21,13 @@ use Rattle.emissions.specs.Factor.{factorLimit, direction}
 use Rattle.emissions.specs.declared.GridEntry.{GridEntry}
 use Rattle.rounding.proofs.Outcomes.{never-given, given-is, test-held}
 use Rattle.emissions.proofs.Losses.{LossSound}
-use Rattle.ledger.specs.Judging.{gridJudged, isThere, dropJudged, metersOf, onRead, onEnergy, kept, sourceJudged}
-use Rattle.report.specs.Records.{linesOf, allWithinLimits, plantJudged, siteFits, lossFits, lossMatches, isGiven, sourceIntact}
+use Rattle.records.specs.Judging.{gridJudged, dropJudged, metersOf, onRead, onEnergy, kept, sourceJudged, linesOf, allWithinLimits, plantJudged, siteFits, lossFits, lossMatches}
+use Rattle.report.specs.Intact.{isGiven, sourceIntact}
 use Rattle.report.proofs.Walks.{loss-sound}
 use Rattle.ledger.specs.Standing.{energyOf}
-use Rattle.report.specs.declared.records.Plant.{Plant}
-use Rattle.ledger.specs.declared.SourceEntry.{SourceEntry}
-use Rattle.report.specs.declared.records.Source.{Source}
+use Rattle.records.specs.declared.Plant.{Plant}
+use Rattle.records.specs.declared.SourceEntry.{SourceEntry}
+use Rattle.records.specs.declared.Source.{Source}
 
 -- ---- the grid
 
@@ -120,8 +120,8 @@ source-facts n e a h =
 -- ---- a drop
 
 -- The number of an accepted drop is within its range.
-pub drop-facts : {A : Type 0} (last : ℕ) (place : ℕ → Option A) (n : ℕ) (u : Unit {0}) → dropJudged last place n ≡ given u → n ≤ last
+pub drop-facts : (last : ℕ) (stands : Bool) (n : ℕ) (u : Unit {0}) → dropJudged last stands n ≡ given u → n ≤ last
 unfolding dropJudged
-drop-facts last place n u e =
-    let p = test-held 1 (leb n last) (refuseUnless 7 (isThere (place n)) (given tt)) e in
+drop-facts last stands n u e =
+    let p = test-held 1 (leb n last) (refuseUnless 7 stands (given tt)) e in
     leb-true n last (p .0)

@@ -25,7 +25,6 @@ use Rattle.emissions.specs.Factor.{combined, captive, margin, exactMargin, grid
 use Rattle.emissions.specs.Loss.{lossOf}
 use Rattle.emissions.specs.Figure.{energyWithLosses, gramsOf, exactGrams, figureOf}
 use Rattle.emissions.specs.declared.GridKind.the-variants.{Thermal}
-use Rattle.emissions.specs.declared.Grid.the-variants.{Entered}
 use Rattle.emissions.specs.declared.Side.{Side}
 use Rattle.emissions.specs.declared.Side.the-variants.{Project, Leakage, Baseline}
 use Rattle.emissions.specs.declared.Supply.{Supply}
@@ -33,15 +32,16 @@ use Rattle.emissions.specs.declared.Supply.the-variants.{Combined, GridDefault,
 use Rattle.emissions.specs.declared.Loss.{Loss}
 use Rattle.emissions.specs.declared.Loss.the-variants.{Nothing, Measured, Default20, Default3}
 use Rattle.emissions.proofs.Factors.{GridSound}
-use Rattle.ledger.specs.Judging.{gridJudged, metersOf, sourceJudged, dropJudged}
-use Rattle.report.specs.Records.{linesOf, allWithinLimits, plantJudged, noPlant, noSource, allIntact}
+use Rattle.records.specs.Judging.{gridJudged, metersOf, sourceJudged, isThere, dropJudged, linesOf, allWithinLimits, plantJudged}
+use Rattle.records.specs.Records.{noGrid, noPlant, noSource, gridRecord}
+use Rattle.report.specs.Intact.{allIntact}
 use Rattle.report.specs.Report.{Books, standing, those, consumption, plantMilligrams, exactPlant, plantsAt, siteOf, sourcesOf, sourceFigure, Figured, Figures, declined, figured, figuresFrom, ofSide, SideReport, sideReport, Report, reduction, reportFrom, Reply, ok, refusedWith, refusedAt, reported, damaged, allFit, replyFrom, reportOf, checkedReportOf, acknowledged, intact}
 use Rattle.ledger.specs.Standing.{Call, enterGrid, enterPlant, enterSource, dropPlant, dropSource, report, Standing, nothing, after, energyOf, books, answer}
 use Rattle.ledger.specs.Exact.{exactFigure, gap, figuresOf, exactSide, exactReduction}
 use Rattle.ledger.specs.Operations.{newLedger, step, reply}
 use Rattle.ledger.specs.Claim.{ReportSafe}
-use Rattle.report.specs.declared.records.Plant.{Plant}
-use Rattle.ledger.specs.declared.SourceEntry.{SourceEntry}
+use Rattle.records.specs.declared.Plant.{Plant}
+use Rattle.records.specs.declared.SourceEntry.{SourceEntry}
 use Rattle.ledger.specs.declared.Ledger.{Ledger}
 use Rattle.ledger.proofs.Demand3.{claim-at, records-show}
 
@@ -87,7 +87,7 @@ zeros = totals 0 0 0
 
 -- The answers to a list of calls from a new ledger. `unfolding run` opens what they compute by.
 unfoldable pub run : List Call → List Reply
-unfolding answers step reply newLedger noPlant noSource answer checkedReportOf intact allIntact gridJudged linesOf allWithinLimits plantJudged metersOf sourceJudged dropJudged withinLimits exactMilligrams roundedMilligrams judgedMeters judgedReadings allMeters anyMeter roundedAdding roundedTaking settledEnergy sum divided exactRegister isReadableRegister ofBits standing those consumption plantMilligrams plantsAt siteOf sourceFigure figuresFrom ofSide sideReport reduction reportFrom reportOf margin gridDefault captiveJudged lowDefault chosen lossOf energyWithLosses gramsOf figureOf
+unfolding answers step reply newLedger noGrid noPlant noSource answer checkedReportOf intact allIntact gridJudged linesOf allWithinLimits plantJudged metersOf sourceJudged dropJudged withinLimits exactMilligrams roundedMilligrams judgedMeters judgedReadings allMeters anyMeter roundedAdding roundedTaking settledEnergy sum divided exactRegister isReadableRegister ofBits standing those consumption plantMilligrams plantsAt siteOf sourceFigure figuresFrom ofSide sideReport reduction reportFrom reportOf margin gridDefault captiveJudged lowDefault chosen lossOf energyWithLosses gramsOf figureOf
 run calls = answers step reply newLedger calls
 
 -- What stands after a list of calls. `unfolding stands` opens what its exact values compute by.
@@ -383,8 +383,8 @@ unfolding answer reportOf
 answer-never-damaged b (enterGrid g) e = entry-never-damaged (gridJudged g) e
 answer-never-damaged b (enterPlant n p) e = entry-never-damaged (plantJudged n p) e
 answer-never-damaged b (enterSource n a) e = entry-never-damaged (sourceJudged n a) e
-answer-never-damaged b (dropPlant n) e = entry-never-damaged (dropJudged 7 (b .plant) n) e
-answer-never-damaged b (dropSource n) e = entry-never-damaged (dropJudged 31 (b .source) n) e
+answer-never-damaged b (dropPlant n) e = entry-never-damaged (dropJudged 7 (isThere (b .plant n)) n) e
+answer-never-damaged b (dropSource n) e = entry-never-damaged (dropJudged 31 (isThere (b .source n)) n) e
 answer-never-damaged b report e = report-never-damaged (figuresFrom b (sourcesOf b)) e
 
 -- No list of calls from a new ledger is answered so at any place.
@@ -393,7 +393,7 @@ never-damaged calls i h e = answer-never-damaged _ _ (sym (claim-at calls i h re
 
 -- A ledger whose grid has a margin above the limit is answered so, and no list of calls leaves it.
 abbrev pub damagedLedger : Ledger
-damagedLedger = record { grid = Entered (record { margin = 10000001; kind = Thermal }); plants = newLedger .plants; sources = newLedger .sources }
+damagedLedger = record { grid = gridRecord (record { margin = 10000001; kind = Thermal }); plants = newLedger .plants; sources = newLedger .sources }
 
 pub is-damaged : reply damagedLedger report ≡ damaged
 unfolding run
@@ -402,5 +402,5 @@ is-damaged = refl
 pub no-calls-leave-it : (calls : List Call) → afterCalls step newLedger calls ≡ damagedLedger → ⊥
 no-calls-leave-it calls e =
     let h = records-show calls in
-    let k : 10000001 ≤ 10000000 = subst GridSound (sym (ap (λ (b : Books). b .grid) (h .same)) ∙ ap (λ (l : Ledger). l .grid) e) (h .accepted .grid) in
+    let k : 10000001 ≤ 10000000 = subst GridSound (sym (ap (λ (b : Books). b .grid) (h .same)) ∙ ap (λ (l : Ledger). l .grid .grid) e) (h .accepted .grid) in
     omega arith

@@ -25,14 +25,14 @@ use Rattle.rounding.proofs.Outcomes.{given-is, then-given}
 use Rattle.emissions.proofs.Factors.{GridSound, FactorSound, chosen-sound}
 use Rattle.emissions.proofs.Losses.{loss-limit}
 use Rattle.emissions.proofs.Figures.{figure-conservative, figure-within-allowance, figure-over}
-use Rattle.ledger.specs.Judging.{metersOf, kept}
+use Rattle.records.specs.Judging.{metersOf, kept}
 use Rattle.report.specs.Report.{Numbered, sourcesOf, plantsOf, consumption, comparesFactor, comparesLoss, siteOf, captiveAt, sourceFigure, Figured, Figures, declined, figured, withFigure, figuresFrom, sideIndex, ofSide, gramsIn, sideReport, Report, reportFrom, refusedWith, refusedAt, reported, allFit, replyFrom, reportOf}
 use Rattle.ledger.specs.Standing.{Standing, energyOf, keptOf, books}
 use Rattle.ledger.specs.Exact.{figuredAt, exactEnergyOf, exactFigure, gap, listOf, figuresOf, exactSide, exactReduction, sideAllowance}
 use Rattle.ledger.specs.Claim.{SourceSafe, SideSafe, ReportSafe}
-use Rattle.report.specs.declared.records.Plant.{Plant}
-use Rattle.ledger.specs.declared.SourceEntry.{SourceEntry}
-use Rattle.report.specs.declared.records.Source.{Source}
+use Rattle.records.specs.declared.Plant.{Plant}
+use Rattle.records.specs.declared.SourceEntry.{SourceEntry}
+use Rattle.records.specs.declared.Source.{Source}
 use Rattle.ledger.proofs.Entries.{PlantFacts, SourceFacts}
 use Rattle.report.proofs.Sites.{site-sound}
 use Rattle.ledger.proofs.Sides.{side-conservative, reduction-safe, reduction-near, reduction-over}

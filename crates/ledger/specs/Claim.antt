@@ -10,12 +10,13 @@ use Rattle.emissions.specs.Factor.{direction}
 use Rattle.emissions.specs.Figure.{Figure, gapLimit, gapAllowance}
 use Rattle.emissions.specs.declared.Side.{Side}
 use Rattle.emissions.specs.declared.Side.the-variants.{Project, Leakage, Baseline}
-use Rattle.ledger.specs.Judging.{kept}
+use Rattle.records.specs.Judging.{kept}
 use Rattle.report.specs.Report.{SideReport, Report, Reply, reported, sourceFigure}
 use Rattle.ledger.specs.Standing.{Call, Standing, nothing, after, energyOf, books, answer}
 use Rattle.ledger.specs.Exact.{figuredAt, exactFigure, gap, exactSide, exactReduction, sideAllowance, reductionAllowance}
 use Rattle.ledger.specs.Operations.{newLedger, step, reply}
-use Rattle.ledger.specs.declared.SourceEntry.{SourceEntry}
+use Rattle.ledger.specs.Owner.{ownerStep, ownerReply}
+use Rattle.records.specs.declared.SourceEntry.{SourceEntry}
 
 -- The source that stands under the number n with the entry e: it has a figure, on the safe side of its exact figure, with its gap below
 -- 1 + (13 × (F + 2) + 11 × U ÷ 10) ÷ 1,000,000 grams, "hence below 200 kilograms".
@@ -50,3 +51,7 @@ pub record Claim (s : Standing) (c : Call) (a : Reply) : Type 0 where
 -- "Demand 3 is one claim about the whole list, for every list": of the answers to a list of calls from a new ledger.
 abbrev pub Demand3 : List Call → Type 0
 Demand3 calls = Held after Claim nothing calls (answers step reply newLedger calls)
+
+-- The same of an owner who keeps the ledger and stores the record that each operation keeps.
+abbrev pub OwnerDemand3 : List Call → Type 0
+OwnerDemand3 calls = Held after Claim nothing calls (answers ownerStep ownerReply newLedger calls)

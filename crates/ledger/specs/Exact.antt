@@ -8,10 +8,10 @@ use Rattle.emissions.specs.Factor.{exactFactorOf}
 use Rattle.emissions.specs.Figure.{Figure, exactGrams}
 use Rattle.emissions.specs.declared.Side.{Side}
 use Rattle.emissions.specs.declared.Side.the-variants.{Project, Leakage, Baseline}
-use Rattle.ledger.specs.Judging.{metersOf}
+use Rattle.records.specs.Judging.{metersOf}
 use Rattle.report.specs.Report.{sourcesOf, plantsOf, siteOf, Figured, Figures, declined, figured, figuresFrom, ofSide}
 use Rattle.ledger.specs.Standing.{Standing, books}
-use Rattle.ledger.specs.declared.SourceEntry.{SourceEntry}
+use Rattle.records.specs.declared.SourceEntry.{SourceEntry}
 
 -- The exact energy e of the source under a number.
 abbrev pub exactEnergyOf : Option SourceEntry → Ratio

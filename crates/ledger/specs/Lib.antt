@@ -1,7 +1,6 @@
-pub mod Judging
 pub mod Standing
 pub mod Exact
 pub mod Operations
+pub mod Owner
 pub mod Claim
-pub mod Answers
 pub mod Bench

@@ -1,37 +1,40 @@
 -- The operations on the ledger's own records: what each leaves and answers. The contracts of the code equal these.
 use Prim.Native.Nat.{ℕ}
-use mathlib.Core.Bool.{true}
 use lib.ListN.{set, replicate}
-use Rattle.emissions.specs.declared.Grid.the-variants.{Absent, Entered}
-use Rattle.ledger.specs.Judging.{gridJudged, sourceJudged, dropJudged}
-use Rattle.report.specs.Records.{plantJudged, noPlant, noSource}
+use Rattle.records.specs.Judging.{gridJudged, plantJudged, sourceJudged, isThere, dropJudged, whereGiven}
+use Rattle.records.specs.Records.{noGrid, noPlant, noSource, gridRecord, plantRecord, sourceRecord}
 use Rattle.report.specs.Report.{Books, Reply, booksOf, checkedReportOf}
-use Rattle.ledger.specs.Standing.{Call, enterGrid, enterPlant, enterSource, dropPlant, dropSource, report, whereGiven, answer}
-use Rattle.report.specs.declared.records.PlantRecord.{PlantRecord}
-use Rattle.report.specs.declared.records.SourceRecord.{SourceRecord}
+use Rattle.ledger.specs.Standing.{Call, enterGrid, enterPlant, enterSource, dropPlant, dropSource, report, answer}
+use Rattle.records.specs.declared.GridRecord.{GridRecord}
+use Rattle.records.specs.declared.PlantRecord.{PlantRecord}
+use Rattle.records.specs.declared.SourceRecord.{SourceRecord}
 use Rattle.ledger.specs.declared.Ledger.{Ledger}
 
 -- "A new ledger is empty."
 unfoldable pub newLedger : Ledger
-newLedger = record { grid = Absent; plants = replicate 8 noPlant; sources = replicate 32 noSource }
+newLedger = record { grid = noGrid; plants = replicate 8 noPlant; sources = replicate 32 noSource }
 
 -- What a ledger's records show.
 abbrev pub recorded : Ledger → Books
-recorded l = booksOf (l .grid) (l .plants) (l .sources)
+recorded l = booksOf (l .grid .grid) (l .plants) (l .sources)
 
--- The ledger that a call leaves. A drop stores the empty record.
+-- The ledger with one record stored.
+abbrev pub withGrid : Ledger → GridRecord → Ledger
+withGrid l r = record { grid = r; plants = l .plants; sources = l .sources }
+
 abbrev pub withPlant : Ledger → ℕ → PlantRecord → Ledger
 withPlant l n r = record { grid = l .grid; plants = set (l .plants) n r; sources = l .sources }
 
 abbrev pub withSource : Ledger → ℕ → SourceRecord → Ledger
 withSource l n r = record { grid = l .grid; plants = l .plants; sources = set (l .sources) n r }
 
+-- The ledger that a call leaves. A drop stores the empty record.
 unfoldable pub step : Ledger → Call → Ledger
-step l (enterGrid g) = whereGiven (gridJudged g) (λ a. record { grid = Entered a; plants = l .plants; sources = l .sources }) l
-step l (enterPlant n p) = whereGiven (plantJudged n p) (λ a. withPlant l n (record { stands = true; plant = a })) l
-step l (enterSource n e) = whereGiven (sourceJudged n e) (λ a. withSource l n (record { stands = true; source = a })) l
-step l (dropPlant n) = whereGiven (dropJudged 7 (recorded l .plant) n) (λ a. withPlant l n noPlant) l
-step l (dropSource n) = whereGiven (dropJudged 31 (recorded l .source) n) (λ a. withSource l n noSource) l
+step l (enterGrid g) = whereGiven (gridJudged g) (λ a. withGrid l (gridRecord a)) l
+step l (enterPlant n p) = whereGiven (plantJudged n p) (λ a. withPlant l n (plantRecord a)) l
+step l (enterSource n e) = whereGiven (sourceJudged n e) (λ a. withSource l n (sourceRecord a)) l
+step l (dropPlant n) = whereGiven (dropJudged 7 (isThere (recorded l .plant n)) n) (λ a. withPlant l n noPlant) l
+step l (dropSource n) = whereGiven (dropJudged 31 (isThere (recorded l .source n)) n) (λ a. withSource l n noSource) l
 step l report = l
 
 -- The answer to a call; only a report looks whether the ledger is intact.

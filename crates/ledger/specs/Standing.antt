@@ -5,17 +5,15 @@ use mathlib.Core.Bool.{cond}
 use mathlib.Core.Option.{Option, none, some}
 use lib.Dec.{eqb}
 use Rattle.metering.specs.Energy.{roundedAdding, roundedTaking}
-use Rattle.rounding.specs.Outcome.{Outcome, refused, given}
 use Rattle.emissions.specs.Factor.{direction}
 use Rattle.emissions.specs.declared.GridEntry.{GridEntry}
 use Rattle.emissions.specs.declared.Grid.{Grid}
 use Rattle.emissions.specs.declared.Grid.the-variants.{Absent, Entered}
-use Rattle.ledger.specs.Judging.{gridJudged, sourceJudged, dropJudged, metersOf, kept}
-use Rattle.report.specs.Records.{plantJudged}
+use Rattle.records.specs.Judging.{gridJudged, plantJudged, metersOf, kept, sourceJudged, isThere, dropJudged, whereGiven}
 use Rattle.report.specs.Report.{Books, Reply, acknowledged, reportOf}
-use Rattle.report.specs.declared.records.Plant.{Plant}
-use Rattle.ledger.specs.declared.SourceEntry.{SourceEntry}
-use Rattle.report.specs.declared.records.Source.{Source}
+use Rattle.records.specs.declared.Plant.{Plant}
+use Rattle.records.specs.declared.SourceEntry.{SourceEntry}
+use Rattle.records.specs.declared.Source.{Source}
 
 -- "A list of calls holds grid entries, plant entries, source entries, drops of plants, drops of sources and reports .. with any arguments".
 -- A register among them is any binary32 value, infinities and NaN included: the definitions give a float of another width no meaning.
@@ -41,19 +39,14 @@ nothing = record { grid = Absent; plant = λ n. none; source = λ n. none }
 abbrev pub put : {A : Type 0} → (ℕ → Option A) → ℕ → Option A → ℕ → Option A
 put place n v k = cond (eqb k n) v (place k)
 
--- "A refused call .. alters nothing."
-abbrev pub whereGiven : {A : Type 0} {S : Type 0} → Outcome A → (A → S) → S → S
-whereGiven (refused n) f s = s
-whereGiven (given a) f s = f a
-
 -- "An entry that its rules do not refuse then stands under its number among its own kind, in place of an older one there .. A drop that its
 -- rules do not refuse takes away what stands there. A refused call or a report alters nothing."
 unfoldable pub after : Standing → Call → Standing
 after s (enterGrid g) = whereGiven (gridJudged g) (λ a. record { grid = Entered g; plant = s .plant; source = s .source }) s
 after s (enterPlant n p) = whereGiven (plantJudged n p) (λ a. record { grid = s .grid; plant = put (s .plant) n (some p); source = s .source }) s
 after s (enterSource n e) = whereGiven (sourceJudged n e) (λ a. record { grid = s .grid; plant = s .plant; source = put (s .source) n (some e) }) s
-after s (dropPlant n) = whereGiven (dropJudged 7 (s .plant) n) (λ a. record { grid = s .grid; plant = put (s .plant) n none; source = s .source }) s
-after s (dropSource n) = whereGiven (dropJudged 31 (s .source) n) (λ a. record { grid = s .grid; plant = s .plant; source = put (s .source) n none }) s
+after s (dropPlant n) = whereGiven (dropJudged 7 (isThere (s .plant n)) n) (λ a. record { grid = s .grid; plant = put (s .plant) n none; source = s .source }) s
+after s (dropSource n) = whereGiven (dropJudged 31 (isThere (s .source n)) n) (λ a. record { grid = s .grid; plant = s .plant; source = put (s .source) n none }) s
 after s report = s
 
 -- E of an entry that stands: the signed sum of its rounded readings.
@@ -73,6 +66,6 @@ unfoldable pub answer : Books → Call → Reply
 answer b (enterGrid g) = acknowledged (gridJudged g)
 answer b (enterPlant n p) = acknowledged (plantJudged n p)
 answer b (enterSource n e) = acknowledged (sourceJudged n e)
-answer b (dropPlant n) = acknowledged (dropJudged 7 (b .plant) n)
-answer b (dropSource n) = acknowledged (dropJudged 31 (b .source) n)
+answer b (dropPlant n) = acknowledged (dropJudged 7 (isThere (b .plant n)) n)
+answer b (dropSource n) = acknowledged (dropJudged 31 (isThere (b .source n)) n)
 answer b report = reportOf b

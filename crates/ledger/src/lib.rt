@@ -1,39 +1,22 @@
 // The ledger: the grid, captive plants and metered sources that stand, and the report on them
-// (document 01, "The ledger and its exact value" and "How each operation declines").
+// (document 01, "The ledger and its exact value"). Each operation hands the one record that it changes to the
+// crate `records` and stores what is kept of it, the old record where it is refused. An owner who has little
+// memory does the same with a ledger of its own: a call by value copies the whole ledger.
 ghost use mathlib.Core.Path.{_≡_};
-ghost use mathlib.Core.Bool.{true, cond};
-ghost use Rattle.ledger.specs.Judging.{gridJudged, sourceJudged};
-ghost use Rattle.ledger.specs.Standing.{enterGrid, enterPlant, enterSource, dropPlant, dropSource, report, whereGiven};
-ghost use Rattle.report.specs.Report.{acknowledged, ok, refusedWith};
+ghost use Rattle.ledger.specs.Standing.{enterGrid, enterPlant, enterSource, dropPlant, dropSource, report};
 ghost use Rattle.ledger.specs.Operations.{newLedger, step, reply};
 ghost use Rattle.report.specs.Answers.{answerMeaning, reportMeaning};
-ghost use Rattle.ledger.specs.Answers.{sourceMeaning};
-use emissions::Grid;
 use emissions::GridEntry;
-use emissions::Loss;
-use emissions::Side;
-use emissions::Supply;
-use metering::EnergyJudged;
-use metering::Meter;
-use metering::MetersJudged;
+use records::Answer;
+use records::GridRecord;
+use records::Plant;
+use records::PlantRecord;
+use records::SourceEntry;
+use records::SourceRecord;
 use report::Reported;
-use report::records::Answer;
-use report::records::Plant;
-use report::records::PlantRecord;
-use report::records::Source;
-use report::records::SourceRecord;
-
-// A source as entered: its meters are the first `count` of the four.
-pub struct SourceEntry {
-    pub side: Side,
-    pub supply: Supply,
-    pub loss: Loss,
-    pub meters: [Meter; 4],
-    pub count: u8,
-}
 
 pub struct Ledger {
-    pub grid: Grid,
+    pub grid: GridRecord,
     pub plants: [PlantRecord; 8],
     pub sources: [SourceRecord; 32],
 }
@@ -44,120 +27,34 @@ pub struct Entered {
     pub answer: Answer,
 }
 
-// A source entry judged: what is kept of it, or the number of the refusal.
-pub enum SourceJudged {
-    Refused(u8),
-    Accepted(Source),
-}
-
-impl SourceEntry {
-    // The entry's refusals 1 to 6 in their order, or what is kept (document 01, "Source entry").
-    fn judged(self, number: u8) -> SourceJudged
-        ensures { λ r. ⌜ sourceMeaning r ≡ sourceJudged number self ⌝ }
-    {
-        let side = self.side;
-        let supply = self.supply;
-        let loss = self.loss;
-        if number > 31 {
-            return SourceJudged::Refused(1);
-        }
-        if report::records::has_site(supply) == false {
-            return SourceJudged::Refused(1);
-        }
-        if report::records::has_loss(loss) == false {
-            return SourceJudged::Refused(2);
-        }
-        let meters = self.meters;
-        let sums = metering::judge_meters(meters, self.count, side.direction());
-        let MetersJudged::Read(adds, takes) = sums else {
-            return SourceJudged::Refused(sums.refusal());
-        };
-        if report::records::is_matched(supply, loss) == false {
-            return SourceJudged::Refused(5);
-        }
-        let settled = metering::settle_energy(adds, takes);
-        let EnergyJudged::Accepted(energy) = settled else {
-            return SourceJudged::Refused(settled.refusal());
-        };
-        SourceJudged::Accepted(Source {
-            side,
-            supply,
-            loss,
-            energy,
-        })
-    }
-}
-
-impl SourceJudged {
-    // The answer of an entry that is judged so.
-    fn answer(self) -> Answer
-        ensures { λ r. ⌜ answerMeaning r ≡ acknowledged (sourceMeaning self) ⌝ }
-    {
-        match self {
-            SourceJudged::Refused(number) => Answer::Refused(number),
-            SourceJudged::Accepted(_) => Answer::Accepted,
-        }
-    }
-}
-
-// The grid that an entry leaves: the new one, or the old one where the entry is refused.
-fn grid_after(grid: Grid, entry: GridEntry) -> Grid
-    ensures { λ r. ⌜ r ≡ whereGiven (gridJudged entry) (λ a. Grid.Entered a) grid ⌝ }
-{
-    if entry.margin > Grid::FACTOR_LIMIT {
-        return grid;
-    }
-    Grid::Entered(entry)
-}
-
-fn grid_answer(entry: GridEntry) -> Answer
-    ensures { λ r. ⌜ answerMeaning r ≡ acknowledged (gridJudged entry) ⌝ }
-{
-    if entry.margin > Grid::FACTOR_LIMIT {
-        return Answer::Refused(2);
-    }
-    Answer::Accepted
-}
-
-// The answer to a drop under a number in range.
-fn drop_answer(stands: bool) -> Answer
-    ensures { λ r. ⌜ answerMeaning r ≡ cond stands ok (refusedWith 7) ⌝ }
-{
-    if stands {
-        return Answer::Accepted;
-    }
-    Answer::Refused(7)
-}
-
 impl Ledger {
     // A new ledger is empty.
     pub fn new() -> Ledger
         ensures { λ r. ⌜ r ≡ newLedger ⌝ }
     {
+        let grid = GridRecord::empty();
         let plant = PlantRecord::empty();
         let source = SourceRecord::empty();
         Ledger {
-            grid: Grid::Absent,
+            grid,
             plants: [plant; 8],
             sources: [source; 32],
         }
     }
 
     // Enters the grid, in place of an older entry (document 01, "Grid entry").
-    pub fn enter_grid(self, entry: GridEntry) -> Entered
+    pub fn enter_grid(mut self, entry: GridEntry) -> Entered
         ensures ledger { λ r. ⌜ r .ledger ≡ step self (enterGrid entry) ⌝ }
         ensures answer { λ r. ⌜ answerMeaning (r .answer) ≡ reply self (enterGrid entry) ⌝ }
     {
-        let grid = self.grid;
-        let plants = self.plants;
-        let sources = self.sources;
+        let held = self.grid;
+        let done = held.entered(entry);
+        let kept = done.kept;
+        let answer = done.answer;
+        self.grid = kept;
         Entered {
-            ledger: Ledger {
-                grid: grid_after(grid, entry),
-                plants,
-                sources,
-            },
-            answer: grid_answer(entry),
+            ledger: self,
+            answer,
         }
     }
 
@@ -166,18 +63,12 @@ impl Ledger {
         ensures ledger { λ r. ⌜ r .ledger ≡ step self (enterPlant number plant) ⌝ }
         ensures answer { λ r. ⌜ answerMeaning (r .answer) ≡ reply self (enterPlant number plant) ⌝ }
     {
-        let answer = plant.judged(number);
-        let Answer::Accepted = answer else {
-            return Entered {
-                ledger: self,
-                answer,
-            };
-        };
-        let at = number as usize;
-        self.plants[at] = PlantRecord {
-            stands: true,
-            plant,
-        };
+        let at = (number % 8) as usize;
+        let held = self.plants[at];
+        let done = held.entered(number, plant);
+        let kept = done.kept;
+        let answer = done.answer;
+        self.plants[at] = kept;
         Entered {
             ledger: self,
             answer,
@@ -189,21 +80,15 @@ impl Ledger {
         ensures ledger { λ r. ⌜ r .ledger ≡ step self (enterSource number entry) ⌝ }
         ensures answer { λ r. ⌜ answerMeaning (r .answer) ≡ reply self (enterSource number entry) ⌝ }
     {
-        let judged = entry.judged(number);
-        let SourceJudged::Accepted(source) = judged else {
-            return Entered {
-                ledger: self,
-                answer: judged.answer(),
-            };
-        };
-        let at = number as usize;
-        self.sources[at] = SourceRecord {
-            stands: true,
-            source,
-        };
+        let at = (number % 32) as usize;
+        let held = self.sources[at];
+        let done = held.entered(number, entry);
+        let kept = done.kept;
+        let answer = done.answer;
+        self.sources[at] = kept;
         Entered {
             ledger: self,
-            answer: Answer::Accepted,
+            answer,
         }
     }
 
@@ -212,18 +97,15 @@ impl Ledger {
         ensures ledger { λ r. ⌜ r .ledger ≡ step self (dropPlant number) ⌝ }
         ensures answer { λ r. ⌜ answerMeaning (r .answer) ≡ reply self (dropPlant number) ⌝ }
     {
-        if number > 7 {
-            return Entered {
-                ledger: self,
-                answer: Answer::Refused(1),
-            };
-        }
-        let at = number as usize;
-        let plant = self.plants[at];
-        self.plants[at] = plant.dropped();
+        let at = (number % 8) as usize;
+        let held = self.plants[at];
+        let done = held.dropped(number);
+        let kept = done.kept;
+        let answer = done.answer;
+        self.plants[at] = kept;
         Entered {
             ledger: self,
-            answer: drop_answer(plant.stands),
+            answer,
         }
     }
 
@@ -232,18 +114,15 @@ impl Ledger {
         ensures ledger { λ r. ⌜ r .ledger ≡ step self (dropSource number) ⌝ }
         ensures answer { λ r. ⌜ answerMeaning (r .answer) ≡ reply self (dropSource number) ⌝ }
     {
-        if number > 31 {
-            return Entered {
-                ledger: self,
-                answer: Answer::Refused(1),
-            };
-        }
-        let at = number as usize;
-        let source = self.sources[at];
-        self.sources[at] = source.dropped();
+        let at = (number % 32) as usize;
+        let held = self.sources[at];
+        let done = held.dropped(number);
+        let kept = done.kept;
+        let answer = done.answer;
+        self.sources[at] = kept;
         Entered {
             ledger: self,
-            answer: drop_answer(source.stands),
+            answer,
         }
     }
 
@@ -251,7 +130,8 @@ impl Ledger {
     pub fn report(self) -> Reported
         ensures { λ r. ⌜ reportMeaning r ≡ reply self report ⌝ }
     {
-        let grid = self.grid;
+        let held = self.grid;
+        let grid = held.grid;
         let plants = self.plants;
         let sources = self.sources;
         report::report_of(grid, plants, sources)

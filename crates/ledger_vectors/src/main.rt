@@ -23,16 +23,16 @@ use emissions::Supply;
 use fuel::FuelLine;
 use ledger::Entered;
 use ledger::Ledger;
-use ledger::SourceEntry;
 use libc::STDOUT_FILENO;
+use records::Answer;
+use records::GridRecord;
+use records::Plant;
+use records::PlantRecord;
+use records::SourceEntry;
+use records::SourceRecord;
 use report::Report;
 use report::Reported;
 use report::SideReport;
-use report::records::Answer;
-use report::records::Plant;
-use report::records::PlantRecord;
-use report::records::Source;
-use report::records::SourceRecord;
 
 fn field_u8(line: &[u8], i: usize) -> u8 {
     (vectors::field(line, i) % 0x100) as u8
@@ -126,7 +126,9 @@ fn with_grid(ledger: Ledger, entry: GridEntry) -> Ledger {
     let plants = ledger.plants;
     let sources = ledger.sources;
     Ledger {
-        grid: Grid::Entered(entry),
+        grid: GridRecord {
+            grid: Grid::Entered(entry),
+        },
         plants,
         sources,
     }
@@ -135,10 +137,9 @@ fn with_grid(ledger: Ledger, entry: GridEntry) -> Ledger {
 // The ledger with a plant in its place, whatever it holds.
 fn with_plant(mut ledger: Ledger, line: &[u8]) -> Ledger {
     let at = (vectors::field(line, 1) % 8) as usize;
-    ledger.plants[at] = PlantRecord {
-        stands: vectors::field(line, 17) != 0,
-        plant: plant(line),
-    };
+    let mut held = PlantRecord::of(plant(line));
+    held.stands = vectors::field(line, 17) != 0;
+    ledger.plants[at] = held;
     ledger
 }
 
@@ -147,12 +148,10 @@ fn with_source(mut ledger: Ledger, line: &[u8]) -> Ledger {
     let at = (vectors::field(line, 1) % 32) as usize;
     ledger.sources[at] = SourceRecord {
         stands: vectors::field(line, 7) != 0,
-        source: Source {
-            side: side(line),
-            supply: supply(line),
-            loss: loss(line),
-            energy: vectors::field(line, 8),
-        },
+        side: side(line),
+        supply: supply(line),
+        loss: loss(line),
+        energy: vectors::field(line, 8),
     };
     ledger
 }

@@ -1,5 +1,7 @@
-// For measuring from C: each function makes a ledger, calls one operation on it, as often as asked, and
-// answers a number that depends on what came back, so that no part of the work can be left out.
+// For measuring from C: each function makes a ledger, works on it as often as asked, and answers a number that
+// depends on what came back, so that no part of the work can be left out. An operation is measured in two
+// forms: `owner_` hands it one record and stores what is kept, `value_` hands it the whole ledger. Each is
+// called in two functions at least: with one caller alone the compiler would merge it into that one.
 use emissions::Grid;
 use emissions::GridEntry;
 use emissions::GridKind;
@@ -8,51 +10,55 @@ use emissions::Side;
 use emissions::Supply;
 use fuel::FuelLine;
 use ledger::Ledger;
-use ledger::SourceEntry;
 use metering::Interval;
 use metering::Meter;
 use metering::Registers;
 use metering::Sign;
+use records::Answer;
+use records::GridKept;
+use records::GridRecord;
+use records::Plant;
+use records::PlantKept;
+use records::PlantRecord;
+use records::Source;
+use records::SourceEntry;
+use records::SourceKept;
+use records::SourceRecord;
 use report::Reported;
-use report::records::Answer;
-use report::records::Plant;
-use report::records::PlantRecord;
-use report::records::Source;
-use report::records::SourceRecord;
 
 // The sum of two numbers, of which only the lower 32 bits count.
 fn folded(a: u64, b: u64) -> u64 {
     (a % 0x1_0000_0000 + b % 0x1_0000_0000) % 0x1_0000_0000
 }
 
-fn number_of(answer: Answer) -> u64 {
+// The sum with an answer: the number of its refusal, or nothing.
+fn with_answer(sum: u64, answer: Answer) -> u64 {
     match answer {
-        Answer::Accepted => 0,
-        Answer::Refused(number) => number as u64,
+        Answer::Accepted => sum,
+        Answer::Refused(number) => folded(sum, number as u64),
     }
 }
 
-fn plant(seed: u32) -> Plant {
-    let line = FuelLine {
-        quantity: 1_000 + seed % 1_000,
-        ncv: 43_000,
-        factor: 74_100,
-    };
-    Plant {
-        site: (seed % 4) as u8,
-        generation: 70_000,
-        lines: [line; 4],
-        count: 4,
+// What a report says: its grams, or the number of its refusal.
+fn grams_of(reported: Reported) -> u64 {
+    match reported {
+        Reported::Damaged => 1,
+        Reported::Refused(number) => number as u64,
+        Reported::RefusedAt(number, _) => number as u64,
+        Reported::Given(report) => folded(
+            report.project.grams,
+            folded(report.leakage.grams, report.baseline.grams),
+        ),
     }
 }
 
-fn supply(seed: u32) -> Supply {
-    match seed % 5 {
+fn supply_of(kind: u32, site: u8) -> Supply {
+    match kind {
         0 => Supply::Combined,
         1 => Supply::GridDefault,
-        2 => Supply::Captive((seed % 4) as u8),
+        2 => Supply::Captive(site),
         3 => Supply::CaptiveDefault,
-        _ => Supply::Either((seed % 4) as u8),
+        _ => Supply::Either(site),
     }
 }
 
@@ -72,10 +78,24 @@ fn loss(seed: u32) -> Loss {
     }
 }
 
+fn plant(seed: u32) -> Plant {
+    let line = FuelLine {
+        quantity: 1_000 + seed % 1_000,
+        ncv: 43_000,
+        factor: 74_100,
+    };
+    Plant {
+        site: (seed % 4) as u8,
+        count: 4,
+        generation: 70_000,
+        lines: [line; 4],
+    }
+}
+
 fn source(seed: u32) -> Source {
     Source {
         side: side(seed),
-        supply: supply(seed),
+        supply: supply_of(seed % 5, (seed % 4) as u8),
         loss: loss(seed),
         energy: 1_000_000 + seed as u64,
     }
@@ -90,112 +110,232 @@ fn word(words: &[u32], i: usize) -> u32 {
 }
 
 fn plant_record(seed: u32) -> PlantRecord {
-    PlantRecord {
-        stands: true,
-        plant: plant(seed),
-    }
+    PlantRecord::of(plant(seed))
 }
 
 fn source_record(seed: u32) -> SourceRecord {
-    SourceRecord {
-        stands: true,
-        source: source(seed % 0x1_0000),
+    SourceRecord::of(source(seed % 0x1_0000))
+}
+
+fn grid_record(margin: u32) -> GridRecord {
+    GridRecord {
+        grid: Grid::Entered(GridEntry {
+            margin: margin % 10_000_000,
+            kind: GridKind::Thermal,
+        }),
     }
 }
 
 // A ledger in which every plant and every source stands, made from the caller's numbers.
 fn full(words: &[u32]) -> Ledger {
     Ledger {
-        grid: Grid::Entered(GridEntry {
-            margin: word(words, 0) % 10_000_000,
-            kind: GridKind::Thermal,
-        }),
+        grid: grid_record(word(words, 0)),
         plants: [plant_record(word(words, 1)); 8],
         sources: [source_record(word(words, 2)); 32],
     }
 }
 
-fn entry(first: u32, last: u32) -> SourceEntry {
+// The entries that are made anew in each turn, from the caller's numbers.
+fn grid_at(words: &[u32], i: u32) -> GridEntry {
+    GridEntry {
+        margin: word(words, (i % 32) as usize),
+        kind: GridKind::Hydro,
+    }
+}
+
+fn plant_at(words: &[u32], i: u32) -> Plant {
+    plant(word(words, (i % 32) as usize))
+}
+
+fn singles(first: u32, last: u32) -> Interval {
+    Interval::Singles(Registers {
+        first: metering::register(first),
+        last: metering::register(last),
+    })
+}
+
+// A source with four single meters.
+fn four_singles(first: u32, last: u32) -> SourceEntry {
     let meter = Meter {
         sign: Sign::Plus,
-        interval: Interval::Singles(Registers {
-            first: metering::register(first),
-            last: metering::register(last),
-        }),
+        interval: singles(first, last),
     };
     SourceEntry {
         side: Side::Project,
+        count: 4,
         supply: Supply::Combined,
         loss: Loss::Default20,
         meters: [meter; 4],
-        count: 4,
     }
 }
 
-// Each of these makes the ledger in place and calls one operation on it so many times, each on the ledger
-// that the one before left.
-
 #[no_mangle]
-pub extern "C" fn measure_new(at: u32) -> u64 {
+pub extern "C" fn measure_new(number: u32) -> u64 {
     let ledger = Ledger::new();
-    let held = ledger.sources[(at % 32) as usize];
-    held.source.energy
+    let at = (number % 32) as usize;
+    let plant = ledger.plants[at % 8];
+    let source = ledger.sources[at];
+    folded(plant.generation as u64, source.energy)
 }
 
+// Each of these makes the ledger in place and does one operation so many times, each on what the one before
+// left. The array that the operation leaves alone is read at a place that the compiler does not know: it would
+// drop what nothing reads.
+
 #[no_mangle]
-pub extern "C" fn measure_grid(words: &[u32], times: u32) -> u64 {
+pub extern "C" fn owner_grid(words: &[u32], times: u32) -> u64 {
     let mut ledger = full(words);
     let mut sum: u64 = 0;
     let mut i: u32 = 0;
     while i < times {
-        let entered = ledger.enter_grid(GridEntry {
-            margin: word(words, (i % 32) as usize),
-            kind: GridKind::Hydro,
-        });
+        let held = ledger.grid;
+        let done = held.entered(grid_at(words, i));
+        let kept = done.kept;
+        let answer = done.answer;
+        ledger.grid = kept;
+        sum = with_answer(sum, answer);
+        i += 1;
+    }
+    let at = (times % 32) as usize;
+    let plant = ledger.plants[at % 8];
+    let source = ledger.sources[at];
+    folded(sum, folded(plant.generation as u64, source.energy))
+}
+
+#[no_mangle]
+pub extern "C" fn owner_plant(words: &[u32], times: u32) -> u64 {
+    let mut ledger = full(words);
+    let mut sum: u64 = 0;
+    let mut i: u32 = 0;
+    while i < times {
+        let at = (i % 8) as usize;
+        let held = ledger.plants[at];
+        let done = held.entered((i % 8) as u8, plant_at(words, i));
+        let kept = done.kept;
+        let answer = done.answer;
+        ledger.plants[at] = kept;
+        sum = with_answer(sum, answer);
+        i += 1;
+    }
+    let source = ledger.sources[(times % 32) as usize];
+    folded(sum, source.energy)
+}
+
+#[no_mangle]
+pub extern "C" fn owner_source(words: &[u32], times: u32, first: u32, last: u32) -> u64 {
+    let mut ledger = full(words);
+    let entry = four_singles(first, last);
+    let mut sum: u64 = 0;
+    let mut i: u32 = 0;
+    while i < times {
+        let at = (i % 32) as usize;
+        let held = ledger.sources[at];
+        let done = held.entered((i % 32) as u8, entry);
+        let kept = done.kept;
+        let answer = done.answer;
+        ledger.sources[at] = kept;
+        let held = ledger.sources[at];
+        sum = folded(with_answer(sum, answer), held.energy);
+        i += 1;
+    }
+    let plant = ledger.plants[(times % 8) as usize];
+    folded(sum, plant.generation as u64)
+}
+
+#[no_mangle]
+pub extern "C" fn owner_drop_plant(words: &[u32], times: u32) -> u64 {
+    let mut ledger = full(words);
+    let mut sum: u64 = 0;
+    let mut i: u32 = 0;
+    while i < times {
+        let at = (i % 8) as usize;
+        let held = ledger.plants[at];
+        let done = held.dropped((i % 8) as u8);
+        let kept = done.kept;
+        let answer = done.answer;
+        ledger.plants[at] = kept;
+        sum = with_answer(sum, answer);
+        i += 1;
+    }
+    let source = ledger.sources[(times % 32) as usize];
+    folded(sum, source.energy)
+}
+
+#[no_mangle]
+pub extern "C" fn owner_drop_source(words: &[u32], times: u32) -> u64 {
+    let mut ledger = full(words);
+    let mut sum: u64 = 0;
+    let mut i: u32 = 0;
+    while i < times {
+        let at = (i % 32) as usize;
+        let held = ledger.sources[at];
+        let done = held.dropped((i % 32) as u8);
+        let kept = done.kept;
+        let answer = done.answer;
+        ledger.sources[at] = kept;
+        sum = with_answer(sum, answer);
+        i += 1;
+    }
+    let plant = ledger.plants[(times % 8) as usize];
+    folded(sum, plant.generation as u64)
+}
+
+// The same by value.
+
+#[no_mangle]
+pub extern "C" fn value_grid(words: &[u32], times: u32) -> u64 {
+    let mut ledger = full(words);
+    let mut sum: u64 = 0;
+    let mut i: u32 = 0;
+    while i < times {
+        let entered = ledger.enter_grid(grid_at(words, i));
+        let answer = entered.answer;
+        ledger = entered.ledger;
+        sum = with_answer(sum, answer);
+        i += 1;
+    }
+    let at = (times % 32) as usize;
+    let plant = ledger.plants[at % 8];
+    let source = ledger.sources[at];
+    folded(sum, folded(plant.generation as u64, source.energy))
+}
+
+#[no_mangle]
+pub extern "C" fn value_plant(words: &[u32], times: u32) -> u64 {
+    let mut ledger = full(words);
+    let mut sum: u64 = 0;
+    let mut i: u32 = 0;
+    while i < times {
+        let entered = ledger.enter_plant((i % 8) as u8, plant_at(words, i));
+        let answer = entered.answer;
+        ledger = entered.ledger;
+        sum = with_answer(sum, answer);
+        i += 1;
+    }
+    let source = ledger.sources[(times % 32) as usize];
+    folded(sum, source.energy)
+}
+
+#[no_mangle]
+pub extern "C" fn value_source(words: &[u32], times: u32, first: u32, last: u32) -> u64 {
+    let mut ledger = full(words);
+    let entry = four_singles(first, last);
+    let mut sum: u64 = 0;
+    let mut i: u32 = 0;
+    while i < times {
+        let entered = ledger.enter_source((i % 32) as u8, entry);
         let answer = entered.answer;
         ledger = entered.ledger;
         let held = ledger.sources[(i % 32) as usize];
-        sum = folded(sum, folded(number_of(answer), held.source.energy));
+        sum = folded(with_answer(sum, answer), held.energy);
         i += 1;
     }
-    sum
+    let plant = ledger.plants[(times % 8) as usize];
+    folded(sum, plant.generation as u64)
 }
 
 #[no_mangle]
-pub extern "C" fn measure_plant(words: &[u32], times: u32) -> u64 {
-    let mut ledger = full(words);
-    let mut sum: u64 = 0;
-    let mut i: u32 = 0;
-    while i < times {
-        let entered = ledger.enter_plant((i % 8) as u8, plant(word(words, (i % 32) as usize)));
-        let answer = entered.answer;
-        ledger = entered.ledger;
-        let held = ledger.plants[(i % 8) as usize];
-        sum = folded(sum, folded(number_of(answer), held.plant.generation as u64));
-        i += 1;
-    }
-    sum
-}
-
-// Entries with four single meters.
-#[no_mangle]
-pub extern "C" fn measure_source(words: &[u32], times: u32, first: u32, last: u32) -> u64 {
-    let mut ledger = full(words);
-    let mut sum: u64 = 0;
-    let mut i: u32 = 0;
-    while i < times {
-        let entered = ledger.enter_source((i % 32) as u8, entry(first, last));
-        let answer = entered.answer;
-        ledger = entered.ledger;
-        let held = ledger.sources[(i % 32) as usize];
-        sum = folded(sum, folded(number_of(answer), held.source.energy));
-        i += 1;
-    }
-    sum
-}
-
-#[no_mangle]
-pub extern "C" fn measure_drop_plant(words: &[u32], times: u32) -> u64 {
+pub extern "C" fn value_drop_plant(words: &[u32], times: u32) -> u64 {
     let mut ledger = full(words);
     let mut sum: u64 = 0;
     let mut i: u32 = 0;
@@ -203,15 +343,15 @@ pub extern "C" fn measure_drop_plant(words: &[u32], times: u32) -> u64 {
         let entered = ledger.drop_plant((i % 8) as u8);
         let answer = entered.answer;
         ledger = entered.ledger;
-        let held = ledger.plants[((i + 1) % 8) as usize];
-        sum = folded(sum, folded(number_of(answer), held.plant.generation as u64));
+        sum = with_answer(sum, answer);
         i += 1;
     }
-    sum
+    let source = ledger.sources[(times % 32) as usize];
+    folded(sum, source.energy)
 }
 
 #[no_mangle]
-pub extern "C" fn measure_drop_source(words: &[u32], times: u32) -> u64 {
+pub extern "C" fn value_drop_source(words: &[u32], times: u32) -> u64 {
     let mut ledger = full(words);
     let mut sum: u64 = 0;
     let mut i: u32 = 0;
@@ -219,24 +359,11 @@ pub extern "C" fn measure_drop_source(words: &[u32], times: u32) -> u64 {
         let entered = ledger.drop_source((i % 32) as u8);
         let answer = entered.answer;
         ledger = entered.ledger;
-        let held = ledger.sources[((i + 1) % 32) as usize];
-        sum = folded(sum, folded(number_of(answer), held.source.energy));
+        sum = with_answer(sum, answer);
         i += 1;
     }
-    sum
-}
-
-// What a report says: its grams, or the number of its refusal.
-fn grams_of(reported: Reported) -> u64 {
-    match reported {
-        Reported::Damaged => 1,
-        Reported::Refused(number) => number as u64,
-        Reported::RefusedAt(number, _) => number as u64,
-        Reported::Given(report) => folded(
-            report.project.grams,
-            folded(report.leakage.grams, report.baseline.grams),
-        ),
-    }
+    let plant = ledger.plants[(times % 8) as usize];
+    folded(sum, plant.generation as u64)
 }
 
 // Reports; before each one a plant and a source are made anew, so that after 32 turns the sources stand over
@@ -256,6 +383,223 @@ pub extern "C" fn measure_report(words: &[u32], times: u32) -> u64 {
     sum
 }
 
+// A call of the programs below: an entry of the grid (0), of a plant (1) or of a source (2), a drop of a plant
+// (3) or of a source (4), or a report. Each field of an entry is a decimal digit of `fields`, from the last one
+// on: of a grid its kind, of a plant its site and count, of a source its side, supply, site, loss, count and
+// meters.
+struct Call {
+    kind: u32,
+    number: u8,
+    fields: u32,
+    first: u32,
+    last: u32,
+}
+
+// A call is four words: its kind and ten times its number, its fields, and two numbers.
+fn call_at(words: &[u32], i: usize) -> Call {
+    if i < words.len() / 4 {
+        let at = 4 * i;
+        return Call {
+            kind: words[at] % 10,
+            number: (words[at] / 10 % 256) as u8,
+            fields: words[at + 1],
+            first: words[at + 2],
+            last: words[at + 3],
+        };
+    }
+    Call {
+        kind: 5,
+        number: 0,
+        fields: 0,
+        first: 0,
+        last: 0,
+    }
+}
+
+fn grid_entry(call: Call) -> GridEntry {
+    GridEntry {
+        margin: call.first,
+        kind: if call.fields % 2 == 0 {
+            GridKind::Thermal
+        } else {
+            GridKind::Hydro
+        },
+    }
+}
+
+fn plant_entry(call: Call) -> Plant {
+    let line = FuelLine {
+        quantity: call.last,
+        ncv: 43_000,
+        factor: 74_100,
+    };
+    Plant {
+        site: (call.fields % 10) as u8,
+        count: (call.fields / 10 % 10) as u8,
+        generation: call.first,
+        lines: [line; 4],
+    }
+}
+
+fn any_loss(kind: u32) -> Loss {
+    match kind {
+        0 => Loss::Nothing,
+        1 => Loss::Measured(500),
+        2 => Loss::Default20,
+        3 => Loss::Default3,
+        _ => Loss::Measured(5_001),
+    }
+}
+
+// A single meter where the kind is odd, else a whole one; from 4 on it is taken from the source's energy.
+fn any_meter(kind: u32, first: u32, last: u32) -> Meter {
+    Meter {
+        sign: if kind < 4 { Sign::Plus } else { Sign::Minus },
+        interval: if kind % 2 == 1 {
+            singles(first, last)
+        } else {
+            Interval::Counts(first as u64, last as u64)
+        },
+    }
+}
+
+fn source_entry(call: Call) -> SourceEntry {
+    let fields = call.fields;
+    let one = any_meter(fields / 100_000 % 2, call.first, call.last);
+    let other = any_meter(fields / 100_000 % 10 / 2, call.first, call.last);
+    SourceEntry {
+        side: side(fields % 10),
+        count: (fields / 10_000 % 10) as u8,
+        supply: supply_of(fields / 10 % 10, (fields / 100 % 10) as u8),
+        loss: any_loss(fields / 1_000 % 10),
+        meters: [one, other, one, other],
+    }
+}
+
+// What a call leaves in the record that it names, and what a report says. Entries and reports are made in these
+// functions, since the program's own frame would hold them in every call.
+fn grid_after(held: GridRecord, call: Call) -> GridKept {
+    held.entered(grid_entry(call))
+}
+
+fn plant_after(held: PlantRecord, call: Call) -> PlantKept {
+    if call.kind == 3 {
+        return held.dropped(call.number);
+    }
+    held.entered(call.number, plant_entry(call))
+}
+
+fn source_after(held: SourceRecord, call: Call) -> SourceKept {
+    if call.kind == 4 {
+        return held.dropped(call.number);
+    }
+    held.entered(call.number, source_entry(call))
+}
+
+fn report_told(ledger: Ledger) -> u64 {
+    grams_of(ledger.report())
+}
+
+// What a box runs, without its text: a list of calls on one ledger, all operations in one function. The ledger
+// is made by a literal, since `Ledger::new` leaves its own arrays in the frame.
+#[no_mangle]
+pub extern "C" fn owner_program(words: &[u32]) -> u64 {
+    let mut ledger = Ledger {
+        grid: GridRecord::empty(),
+        plants: [PlantRecord::empty(); 8],
+        sources: [SourceRecord::empty(); 32],
+    };
+    let mut sum: u64 = 0;
+    let mut i: usize = 0;
+    while i < words.len() / 4 {
+        let call = call_at(words, i);
+        let kind = call.kind;
+        match kind {
+            0 => {
+                let held = ledger.grid;
+                let done = grid_after(held, call);
+                let kept = done.kept;
+                let answer = done.answer;
+                ledger.grid = kept;
+                sum = with_answer(sum, answer);
+            }
+            1 | 3 => {
+                let at = (call.number % 8) as usize;
+                let held = ledger.plants[at];
+                let done = plant_after(held, call);
+                let kept = done.kept;
+                let answer = done.answer;
+                ledger.plants[at] = kept;
+                sum = with_answer(sum, answer);
+            }
+            2 | 4 => {
+                let at = (call.number % 32) as usize;
+                let held = ledger.sources[at];
+                let done = source_after(held, call);
+                let kept = done.kept;
+                let answer = done.answer;
+                ledger.sources[at] = kept;
+                sum = with_answer(sum, answer);
+            }
+            _ => {
+                sum = folded(sum, report_told(ledger));
+            }
+        }
+        i += 1;
+    }
+    sum
+}
+
+// The same by value.
+#[no_mangle]
+pub extern "C" fn value_program(words: &[u32]) -> u64 {
+    let mut ledger = Ledger::new();
+    let mut sum: u64 = 0;
+    let mut i: usize = 0;
+    while i < words.len() / 4 {
+        let call = call_at(words, i);
+        let kind = call.kind;
+        let number = call.number;
+        match kind {
+            0 => {
+                let entered = ledger.enter_grid(grid_entry(call));
+                let answer = entered.answer;
+                ledger = entered.ledger;
+                sum = with_answer(sum, answer);
+            }
+            1 => {
+                let entered = ledger.enter_plant(number, plant_entry(call));
+                let answer = entered.answer;
+                ledger = entered.ledger;
+                sum = with_answer(sum, answer);
+            }
+            2 => {
+                let entered = ledger.enter_source(number, source_entry(call));
+                let answer = entered.answer;
+                ledger = entered.ledger;
+                sum = with_answer(sum, answer);
+            }
+            3 => {
+                let entered = ledger.drop_plant(number);
+                let answer = entered.answer;
+                ledger = entered.ledger;
+                sum = with_answer(sum, answer);
+            }
+            4 => {
+                let entered = ledger.drop_source(number);
+                let answer = entered.answer;
+                ledger = entered.ledger;
+                sum = with_answer(sum, answer);
+            }
+            _ => {
+                sum = folded(sum, grams_of(ledger.report()));
+            }
+        }
+        i += 1;
+    }
+    sum
+}
+
 // For the size of a record: each holds an array of so many, all made from the caller's numbers, writes
 // one and reads one at places of the caller's. What the one with twice as many takes more is its records.
 
@@ -264,7 +608,7 @@ pub extern "C" fn hold_64_sources(words: &[u32], at: u32) -> u64 {
     let mut records = [source_record(word(words, 0)); 64];
     records[(at % 64) as usize] = source_record(word(words, 1));
     let held = records[(word(words, 2) % 64) as usize];
-    held.source.energy
+    held.energy
 }
 
 #[no_mangle]
@@ -272,7 +616,7 @@ pub extern "C" fn hold_128_sources(words: &[u32], at: u32) -> u64 {
     let mut records = [source_record(word(words, 0)); 128];
     records[(at % 128) as usize] = source_record(word(words, 1));
     let held = records[(word(words, 2) % 128) as usize];
-    held.source.energy
+    held.energy
 }
 
 #[no_mangle]
@@ -280,7 +624,7 @@ pub extern "C" fn hold_64_plants(words: &[u32], at: u32) -> u64 {
     let mut records = [plant_record(word(words, 0)); 64];
     records[(at % 64) as usize] = plant_record(word(words, 1));
     let held = records[(word(words, 2) % 64) as usize];
-    held.plant.generation as u64
+    held.generation as u64
 }
 
 #[no_mangle]
@@ -288,7 +632,7 @@ pub extern "C" fn hold_128_plants(words: &[u32], at: u32) -> u64 {
     let mut records = [plant_record(word(words, 0)); 128];
     records[(at % 128) as usize] = plant_record(word(words, 1));
     let held = records[(word(words, 2) % 128) as usize];
-    held.plant.generation as u64
+    held.generation as u64
 }
 
 #[no_mangle]
@@ -297,7 +641,7 @@ pub extern "C" fn hold_8_ledgers(words: &[u32], at: u32) -> u64 {
     ledgers[(at % 8) as usize] = Ledger::new();
     let held = ledgers[(word(words, 2) % 8) as usize];
     let source = held.sources[(word(words, 3) % 32) as usize];
-    source.source.energy
+    source.energy
 }
 
 #[no_mangle]
@@ -306,5 +650,5 @@ pub extern "C" fn hold_16_ledgers(words: &[u32], at: u32) -> u64 {
     ledgers[(at % 16) as usize] = Ledger::new();
     let held = ledgers[(word(words, 2) % 16) as usize];
     let source = held.sources[(word(words, 3) % 32) as usize];
-    source.source.energy
+    source.energy
 }

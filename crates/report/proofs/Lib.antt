@@ -1,7 +1,6 @@
 pub mod Lists
 pub mod Summing
 pub mod Sites
-pub mod Judged
 pub mod Intact
 pub mod Signed
 pub mod Walks

@@ -12,9 +12,9 @@ use Rattle.fuel.specs.Fuel.{exactMilligrams, roundedMilligrams}
 use Rattle.fuel.specs.declared.FuelLine.{FuelLine}
 use Rattle.fuel.proofs.Fuel.{line-over, line-conservative}
 use Rattle.emissions.proofs.Factors.{SiteSound}
-use Rattle.report.specs.Records.{PlainPlant, plainOf, linesOf}
-use Rattle.report.specs.Report.{Numbered, plainAt, plantsIn, those, plantMilligrams, exactPlant, plantsAt, siteOf}
-use Rattle.report.specs.declared.records.Plant.{Plant}
+use Rattle.report.specs.Report.{PlainPlant, plainOf, Numbered, plainAt, plantsIn, those, plantMilligrams, exactPlant, plantsAt, siteOf}
+use Rattle.records.specs.Judging.{linesOf}
+use Rattle.records.specs.declared.Plant.{Plant}
 use Rattle.report.proofs.Lists.{never-some, standing-all, standing-length, those-all, those-length}
 
 -- ---- a plant

@@ -26,13 +26,15 @@ use Rattle.emissions.specs.declared.Consumption.{Consumption}
 use Rattle.emissions.specs.declared.Side.{Side}
 use Rattle.emissions.specs.declared.Supply.{Supply}
 use Rattle.rounding.proofs.Outcomes.{test-held}
-use Rattle.report.specs.Records.{PlainPlant, plainOf, siteFits, lossFits, lossMatches, linesOf, allWithinLimits, plantJudged, noPlant, noSource, plantIn, sourceIn, isGiven, plantIntact, sourceIntact, allIntact, plantPlace, sourcePlace}
-use Rattle.report.specs.Report.{Numbered, listed, standing, plainAt, those, consumption, plantsAt}
+use Rattle.report.specs.Report.{PlainPlant, plainOf, Numbered, listed, standing, plainAt, those, consumption, plantsAt}
+use Rattle.records.specs.Judging.{siteFits, lossFits, lossMatches, linesOf, allWithinLimits, plantJudged}
+use Rattle.records.specs.Records.{noPlant, noSource, plantIn, sourceIn, plantPlace, sourcePlace}
+use Rattle.report.specs.Intact.{isGiven, plantIntact, sourceIntact, allIntact}
 use Rattle.report.specs.Steps.{ofDirection, share, joined, Small, withShare, addedAt}
-use Rattle.report.specs.declared.records.Plant.{Plant}
-use Rattle.report.specs.declared.records.Source.{Source}
-use Rattle.report.specs.declared.records.PlantRecord.{PlantRecord}
-use Rattle.report.specs.declared.records.SourceRecord.{SourceRecord}
+use Rattle.records.specs.declared.Plant.{Plant}
+use Rattle.records.specs.declared.Source.{Source}
+use Rattle.records.specs.declared.PlantRecord.{PlantRecord}
+use Rattle.records.specs.declared.SourceRecord.{SourceRecord}
 use Rattle.report.proofs.Intact.{getD-any}
 
 -- ---- a place

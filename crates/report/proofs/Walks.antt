@@ -31,12 +31,14 @@ use Rattle.emissions.proofs.Factors.{GridSound}
 use Rattle.emissions.proofs.Supplies.{factor-limit, at-site-limit}
 use Rattle.emissions.proofs.Losses.{LossSound, loss-limit}
 use Rattle.emissions.proofs.Figures.{energy-limit}
-use Rattle.report.specs.Records.{PlainPlant, lossFits, gridIntact, plantIntact, allIntact, sourceIntact, sourcePlace}
-use Rattle.report.specs.Report.{Books, Numbered, listed, standing, those, siteOf, captiveAt, plantsOf, intact, sourceFigure, Figured, Figures, declined, figured, withFigure, figuresFrom, ofSide, booksOf}
+use Rattle.report.specs.Report.{PlainPlant, Books, Numbered, listed, standing, those, siteOf, captiveAt, plantsOf, intact, sourceFigure, Figured, Figures, declined, figured, withFigure, figuresFrom, ofSide, booksOf}
+use Rattle.records.specs.Judging.{lossFits}
+use Rattle.report.specs.Intact.{gridIntact, plantIntact, allIntact, sourceIntact}
+use Rattle.records.specs.Records.{sourcePlace}
 use Rattle.report.specs.Steps.{sitePlants, totalsOf, factorAt, figureAt, parts, noSums, oneMore, withGrams, SideBounded, Bounded, sideSum, walkedOf}
-use Rattle.report.specs.declared.records.Source.{Source}
-use Rattle.report.specs.declared.records.PlantRecord.{PlantRecord}
-use Rattle.report.specs.declared.records.SourceRecord.{SourceRecord}
+use Rattle.records.specs.declared.Source.{Source}
+use Rattle.records.specs.declared.PlantRecord.{PlantRecord}
+use Rattle.records.specs.declared.SourceRecord.{SourceRecord}
 use Rattle.report.specs.declared.Figure.{Figure}
 use Rattle.report.specs.declared.SideSum.{SideSum}
 use Rattle.report.specs.declared.Sums.{Sums}

@@ -1,8 +1,8 @@
 -- What the answers of the code mean: the paper's number and values of each case.
 use Rattle.report.specs.Report.{Reply, ok, refusedWith, refusedAt, reported, damaged}
 use Rattle.report.specs.Report as report
-use Rattle.report.specs.declared.records.Answer.{Answer}
-use Rattle.report.specs.declared.records.Answer.the-variants as answer
+use Rattle.records.specs.declared.Answer.{Answer}
+use Rattle.records.specs.declared.Answer.the-variants as answer
 use Rattle.report.specs.declared.SideReport.{SideReport}
 use Rattle.report.specs.declared.Report.{Report}
 use Rattle.report.specs.declared.Reported.{Reported}

@@ -1,4 +1,4 @@
-pub mod Records
+pub mod Intact
 pub mod Report
 pub mod Answers
 pub mod Steps

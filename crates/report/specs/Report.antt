@@ -10,6 +10,7 @@ use Rattle.rounding.specs.Divided.{divided, sum}
 use Rattle.rounding.specs.Ratio.{Ratio, sumᵣ}
 use Rattle.rounding.specs.declared.Direction.{Direction}
 use Rattle.fuel.specs.Fuel.{exactMilligrams, roundedMilligrams}
+use Rattle.fuel.specs.declared.FuelLine.{FuelLine}
 use Rattle.rounding.specs.Outcome.{Outcome, refused, given, andThen}
 use Rattle.emissions.specs.Factor.{direction, Site, atSite, chosen}
 use Rattle.emissions.specs.Loss.{isProject, isBaseline, lossOf}
@@ -20,11 +21,13 @@ use Rattle.emissions.specs.declared.Supply.{Supply}
 use Rattle.emissions.specs.declared.Supply.the-variants.{Combined, GridDefault, Captive, CaptiveDefault, Either}
 use Rattle.emissions.specs.declared.Grid.{Grid}
 use Rattle.emissions.specs.declared.Consumption.{Consumption}
-use Rattle.report.specs.Records.{PlainPlant, plainOf, plantPlace, sourcePlace, gridIntact, plantIntact, sourceIntact, allIntact}
-use Rattle.report.specs.declared.records.Plant.{Plant}
-use Rattle.report.specs.declared.records.Source.{Source}
-use Rattle.report.specs.declared.records.PlantRecord.{PlantRecord}
-use Rattle.report.specs.declared.records.SourceRecord.{SourceRecord}
+use Rattle.records.specs.Judging.{linesOf}
+use Rattle.records.specs.Records.{plantPlace, sourcePlace}
+use Rattle.report.specs.Intact.{gridIntact, plantIntact, sourceIntact, allIntact}
+use Rattle.records.specs.declared.Plant.{Plant}
+use Rattle.records.specs.declared.Source.{Source}
+use Rattle.records.specs.declared.PlantRecord.{PlantRecord}
+use Rattle.records.specs.declared.SourceRecord.{SourceRecord}
 
 -- What a report reads: the grid, and the plant and the source under each number.
 pub record Books : Type 0 where
@@ -48,6 +51,15 @@ standing place from (suc count) = listed from (place from) (standing place (suc 
 -- "Sources are numbered 0 to 31, plants 0 to 7".
 abbrev pub sourcesOf : Books → List (Numbered Source)
 sourcesOf b = standing (b .source) 0 32
+
+-- A plant as the rules read it: its site, its generation in kWh, and the fuel lines that count.
+pub record PlainPlant : Type 0 where
+  pub site : ℕ
+  pub generation : ℕ
+  pub lines : List FuelLine
+
+abbrev pub plainOf : Plant → PlainPlant
+plainOf p = record { site = p .site; generation = p .generation; lines = linesOf p }
 
 abbrev pub plainAt : (ℕ → Option Plant) → ℕ → Option PlainPlant
 plainAt place n = Option·map plainOf (place n)

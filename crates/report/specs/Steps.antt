@@ -18,12 +18,12 @@ use Rattle.emissions.specs.declared.Grid.{Grid}
 use Rattle.emissions.specs.declared.Side.{Side}
 use Rattle.emissions.specs.declared.Side.the-variants.{Project, Leakage, Baseline}
 use Rattle.emissions.specs.declared.Supply.{Supply}
-use Rattle.report.specs.Report.{Numbered, standing, plantsIn, consumption, comparesFactor, comparesLoss, plantMilligrams, captiveAt, Figured, Figures, declined, figured, gramsIn, ofSide, allFit, Reply, refusedWith, reported}
+use Rattle.report.specs.Report.{Numbered, standing, plantsIn, consumption, comparesFactor, comparesLoss, plantMilligrams, captiveAt, Figured, Figures, declined, figured, gramsIn, ofSide, allFit, Reply, refusedWith, reported, PlainPlant, plainOf}
 use Rattle.report.specs.Report as report
-use Rattle.report.specs.Records.{PlainPlant, plainOf, plantPlace}
-use Rattle.report.specs.declared.records.Plant.{Plant}
-use Rattle.report.specs.declared.records.Source.{Source}
-use Rattle.report.specs.declared.records.PlantRecord.{PlantRecord}
+use Rattle.records.specs.Records.{plantPlace}
+use Rattle.records.specs.declared.Plant.{Plant}
+use Rattle.records.specs.declared.Source.{Source}
+use Rattle.records.specs.declared.PlantRecord.{PlantRecord}
 use Rattle.report.specs.declared.Totals.{Totals}
 use Rattle.report.specs.declared.SiteSums.{SiteSums}
 use Rattle.report.specs.declared.FigureJudged.{FigureJudged}

@@ -1,6 +1,5 @@
 // The report on what stands (document 01, "Losses and factors" and "Report"). Each private function is
 // given records that meet the limits of accepted entries: `report_of` looks first.
-pub mod records;
 
 ghost use mathlib.Core.Path.{_≡_};
 ghost use mathlib.Core.Bool.{true};
@@ -8,16 +7,12 @@ ghost use Prim.Native.Nat.{_+_, _*_, _≤_, _<_};
 ghost use Rattle.emissions.specs.Answers.{factorMeaning};
 ghost use Rattle.emissions.specs.Factor.{direction, siteNamed};
 ghost use Rattle.emissions.specs.Steps.{atNamed};
-ghost use Rattle.report.specs.Report.{comparesFactor, comparesLoss, plantMilligrams, siteOf, captiveAt, figuresFrom, sourcesOf, reportOf, checkedReportOf, booksOf};
-ghost use Rattle.report.specs.Records.{plainOf, plantIn, sourceIn, plantIntact, sourceIntact, gridIntact, allIntact, plantPlace, sourcePlace};
+ghost use Rattle.report.specs.Report.{comparesFactor, comparesLoss, plantMilligrams, siteOf, captiveAt, figuresFrom, sourcesOf, reportOf, checkedReportOf, booksOf, plainOf};
+ghost use Rattle.records.specs.Records.{plantIn, sourceIn, plantPlace, sourcePlace};
+ghost use Rattle.report.specs.Intact.{plantIntact, sourceIntact, gridIntact, allIntact};
 ghost use mathlib.Core.Option.{some};
 ghost use Rattle.report.specs.Answers.{sideMeaning, reportMeaning};
 ghost use Rattle.report.specs.Steps.{sitePlants, share, joined, Small, totalsWith, totalsOf, siteWith, figureAt, parts, figureMeaning, FigureWithin, figureRefusal, noSums, withGrams, Bounded, walkedOf, sideFrom, reductionOf, reportedOf};
-use crate::records::Answer;
-use crate::records::Plant;
-use crate::records::PlantRecord;
-use crate::records::Source;
-use crate::records::SourceRecord;
 use emissions::Consumption;
 use emissions::EmissionsJudged;
 use emissions::FactorJudged;
@@ -28,6 +23,11 @@ use emissions::SiteNamed;
 use emissions::Supply;
 use fuel::Milligrams;
 use metering::Reading;
+use records::Answer;
+use records::Plant;
+use records::PlantRecord;
+use records::Source;
+use records::SourceRecord;
 use rounding::Direction;
 
 // P and B, which the default factor compares, and P' and B', which the default losses compare.
@@ -180,17 +180,16 @@ fn with_source(totals: Totals, held: SourceRecord) -> Totals
     ensures { λ r. ⌜ r ≡ totalsWith totals (sourceIn held) ⌝ }
 {
     if held.stands {
-        let source = held.source;
-        let supply = source.supply;
-        let side = source.side;
+        let supply = held.supply;
+        let side = held.side;
         return Totals {
             factor: plus(
                 totals.factor,
-                share_of(side, source.energy, compares_factor(supply)),
+                share_of(side, held.energy, compares_factor(supply)),
             ),
             loss: plus(
                 totals.loss,
-                share_of(side, source.energy, compares_loss(supply)),
+                share_of(side, held.energy, compares_loss(supply)),
             ),
         };
     }
@@ -241,11 +240,11 @@ fn with_plant(sums: SiteSums, held: PlantRecord, site: u8, direction: Direction)
     ensures { λ r. ⌜ (r ≡ siteWith site direction sums (plantIn held)) × (r .milligrams ≤ sums .milligrams + 12000000000000000) × (r .generation ≤ sums .generation + 100000000) ⌝ }
 {
     if held.stands {
-        let plant = held.plant;
-        if plant.site == site {
+        if held.site == site {
+            let plant = held.plant();
             return SiteSums {
                 milligrams: sums.milligrams + plant_milligrams(plant, direction),
-                generation: sums.generation + plant.generation as u64,
+                generation: sums.generation + held.generation as u64,
             };
         }
         return sums;
@@ -402,7 +401,7 @@ fn walk(grid: Grid, plants: [PlantRecord; 8], sources: [SourceRecord; 32], total
     while i < 32 {
         let held = sources[i as usize];
         if held.stands {
-            let source = held.source;
+            let source = held.source();
             let judged = source_figure(grid, plants, totals, source);
             let FigureJudged::Given(figure) = judged else {
                 return Walked::Refused(judged.refusal(), i);
@@ -479,7 +478,7 @@ fn plant_is_intact(held: PlantRecord) -> bool
     ensures { λ r. ⌜ r ≡ plantIntact (plantIn held) ⌝ }
 {
     if held.stands {
-        let plant = held.plant;
+        let plant = held.plant();
         let answer = plant.judged(0);
         return match answer {
             Answer::Accepted => true,
@@ -493,13 +492,12 @@ fn source_is_intact(held: SourceRecord) -> bool
     ensures { λ r. ⌜ r ≡ sourceIntact (sourceIn held) ⌝ }
 {
     if held.stands {
-        let source = held.source;
-        let supply = source.supply;
-        let loss = source.loss;
-        if crate::records::has_site(supply) {
-            if crate::records::has_loss(loss) {
-                if crate::records::is_matched(supply, loss) {
-                    return source.energy <= Reading::LIMIT;
+        let supply = held.supply;
+        let loss = held.loss;
+        if records::has_site(supply) {
+            if records::has_loss(loss) {
+                if records::is_matched(supply, loss) {
+                    return held.energy <= Reading::LIMIT;
                 }
             }
         }
@@ -508,34 +506,31 @@ fn source_is_intact(held: SourceRecord) -> bool
     true
 }
 
+// These two look at every record: a loop that ends early is unrolled with a copy of the array in parts.
 fn plants_are_intact(plants: [PlantRecord; 8]) -> bool
     ensures { λ r. ⌜ r ≡ allIntact plantIntact (plantPlace plants) 8 ⌝ }
 {
+    let mut intact = true;
     let mut i = 0;
     while i < 8 {
         let held = plants[i];
-        if plant_is_intact(held) {
-            i += 1;
-        } else {
-            return false;
-        }
+        intact = plant_is_intact(held) & intact;
+        i += 1;
     }
-    true
+    intact
 }
 
 fn sources_are_intact(sources: [SourceRecord; 32]) -> bool
     ensures { λ r. ⌜ r ≡ allIntact sourceIntact (sourcePlace sources) 32 ⌝ }
 {
+    let mut intact = true;
     let mut i = 0;
     while i < 32 {
         let held = sources[i];
-        if source_is_intact(held) {
-            i += 1;
-        } else {
-            return false;
-        }
+        intact = source_is_intact(held) & intact;
+        i += 1;
     }
-    true
+    intact
 }
 
 // The answer to a report on records that are intact.

@@ -1,7 +1,7 @@
 -- `report::grid_is_intact` meets its contract: no grid, or the test of its margin. Assumes nothing.
 use borrow.Author.Needs.{needs}
 use mathlib.Core.Path.{sym, ap}
-use Rattle.report.specs.Records.{gridIntact}
+use Rattle.report.specs.Intact.{gridIntact}
 use Rattle.report.proofs.grid_is_intact.Statement.{statement}
 use Rattle.report.proofs.grid_is_intact.Tie as tie
 

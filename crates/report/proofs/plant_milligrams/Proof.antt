@@ -10,7 +10,7 @@ use lib.ListN.{length, getD, length-map}
 use Rattle.fuel.specs.Fuel.{noLine, withinLimits, roundedMilligrams, milligramsMeaning}
 use Rattle.fuel.specs.declared.FuelLine.{FuelLine}
 use Rattle.fuel.proofs.Fuel.{line-bound, line-refused, line-is}
-use Rattle.report.specs.Records.{linesOf, allWithinLimits}
+use Rattle.records.specs.Judging.{linesOf, allWithinLimits}
 use Rattle.report.specs.Report.{plantMilligrams}
 use Rattle.report.proofs.Summing.{plant-limits, linesFrom, milligramsFrom, line-within, line-turn, line-end}
 use Rattle.report.proofs.plant_milligrams.Statement.{statement}
@@ -28,7 +28,7 @@ abbrev μ-loop : tie.MeasureT-loop
 
 -- There are four lines.
 room : (c : tie.Start Inv-loop μ-loop) → c .args .plant .count ≤ length (c .args .plant .lines)
-room c = le-trans (plant-limits (c .args .plant) (c .pre) .count) (le-of-eq (sym (simp length-map at (c .good .0 .1 .1 .1 .1 .0 .1 .0 .1))))
+room c = le-trans (plant-limits (c .args .plant) (c .pre) .count) (le-of-eq (sym (simp length-map at (c .good .0 .1 .1 .1 .1 .1 .0 .1 .0 .1))))
 
 -- The line in its turn.
 abbrev line : tie.In-loop Inv-loop μ-loop → FuelLine

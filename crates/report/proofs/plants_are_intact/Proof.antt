@@ -1,21 +1,20 @@
--- `report::plants_are_intact` meets its contract: the loop keeps that all records before i are intact, and one that is not makes the
--- whole not intact. Assumes nothing.
+-- `report::plants_are_intact` meets its contract: the loop keeps whether all records before i are intact. Assumes nothing.
 use borrow.Author.Needs.{needs}
 use Prim.Native.Nat.{_≤_, _<_, _-_}
-use mathlib.Core.Path.{_≡_, sym}
-use mathlib.Core.Bool.{true}
+use mathlib.Core.Path.{_≡_}
 use native.Mathlib.Omega.{arith}
 use lib.ListN.{length}
-use Rattle.report.specs.Records.{noPlant, plantIn, plantIntact, allIntact, plantPlace}
-use Rattle.report.proofs.Intact.{none-yet, one-more, not-all}
+use Rattle.records.specs.Records.{noPlant, plantIn, plantPlace}
+use Rattle.report.specs.Intact.{plantIntact, allIntact}
+use Rattle.report.proofs.Intact.{none-yet, one-more}
 use Rattle.report.proofs.plants_are_intact.Statement.{statement}
 use Rattle.report.proofs.plants_are_intact.Tie as tie
 
 abbrev Inv-loop : tie.InvT-loop
-Inv-loop plants i₀ i = (i ≤ 8) × (allIntact plantIntact (plantPlace plants) i ≡ true)
+Inv-loop plants intact₀ i₀ intact i = (i ≤ 8) × (intact ≡ allIntact plantIntact (plantPlace plants) i)
 
 abbrev μ-loop : tie.MeasureT-loop
-μ-loop plants i₀ i = 8 - i
+μ-loop plants intact₀ i₀ intact i = 8 - i
 
 loop-holds : tie.Need-loop-holds Inv-loop μ-loop
 loop-holds c = (omega arith, none-yet plantIntact plantIn noPlant (c .args .t1))
@@ -37,25 +36,15 @@ loop-less c = search needs
 
 loop-again : tie.Need-loop-again Inv-loop μ-loop
 loop-again c =
-    let rs = c .before .before .before .before .before .args .t1 in
-    let i = c .before .before .before .before .loop .i in
-    let k : i < length rs = omega (arith, c .before .before .before .before .before .good .0 .1 .0 .1) in (
-      omega arith,
-      one-more plantIntact plantIn noPlant rs i _ _ k (c .before .plant-is-intact .ensures) (c .if1 .taken)
-          (c .before .before .before .before .loop .inv .1),
-    )
+    let rs = c .before .before .before .before .args .t1 in
+    let i = c .before .before .before .loop .i in
+    let k : i < length rs = omega (arith, c .before .before .before .before .good .0 .1 .0 .1) in
+    (omega arith, one-more plantIntact plantIn noPlant rs i _ _ k (c .plant-is-intact .ensures) _ (c .before .before .before .loop .inv .1))
 
 returns : tie.Need-returns Inv-loop μ-loop
 returns c =
-    let rs = c .before .before .before .before .before .args .t1 in
-    let i = c .before .before .before .before .loop .i in
-    let k : i < length rs = omega (arith, c .before .before .before .before .before .good .0 .1 .0 .1) in
-    not-all plantIntact plantIn noPlant rs i _ _ k (c .before .plant-is-intact .ensures) 8 (omega arith) (c .if1 .left)
-
-returns-2 : tie.Need-returns-2 Inv-loop μ-loop
-returns-2 c =
     let e : c .before .loop .i ≡ 8 = omega arith in
-    rw (← e) (sym (c .before .loop .inv .1))
+    rw (← e) (c .before .loop .inv .1)
 
 pub plants-are-intact-spec : {M : Type 1} → statement M
 plants-are-intact-spec =
@@ -70,5 +59,4 @@ plants-are-intact-spec =
     add-i
     loop-less
     loop-again
-    returns
-    returns-2)
+    returns)

@@ -6,7 +6,8 @@ use Prim.Native.Nat.{_+_, _-_, _*_, _≤_, _<_, zero-le}
 use native.Mathlib.Omega.{arith}
 use lib.ListN.{length}
 use Rattle.report.specs.Report.{plantMilligrams, siteOf}
-use Rattle.report.specs.Records.{plantIntact, plantPlace}
+use Rattle.report.specs.Intact.{plantIntact}
+use Rattle.records.specs.Records.{plantPlace}
 use Rattle.report.specs.Steps.{generated, siteWith}
 use Rattle.report.specs.declared.SiteSums.{SiteSums}
 use Rattle.report.proofs.Summing.{plant-at, intact-at, siteFrom, site-turn, site-end}

@@ -16,7 +16,7 @@ is-matched-requires c κs = search needs
 returns : tie.Need-returns
 returns c =
     rw (
-      c .before .before .before .before .before .before .before .before .if1 .taken,
+      c .before .before .before .before .before .before .before .if1 .taken,
       sym (c .before .before .before .before .before .before .has-site .ensures) ∙ c .before .before .before .before .before .if2 .taken,
       sym (c .before .before .before .before .has-loss .ensures) ∙ c .before .before .before .if3 .taken,
       sym (c .before .before .is-matched .ensures) ∙ c .before .if4 .taken,
@@ -25,7 +25,7 @@ returns c =
 returns-2 : tie.Need-returns-2
 returns-2 c =
     rw (
-      c .before .before .before .before .before .before .before .if1 .taken,
+      c .before .before .before .before .before .before .if1 .taken,
       sym (c .before .before .before .before .before .has-site .ensures) ∙ c .before .before .before .before .if2 .taken,
       sym (c .before .before .before .has-loss .ensures) ∙ c .before .before .if3 .taken,
       sym (c .before .is-matched .ensures) ∙ c .if4 .left,

@@ -7,7 +7,8 @@ use native.Mathlib.Omega.{arith}
 use lib.ListN.{length}
 use Rattle.emissions.specs.declared.Side.the-variants.{Project}
 use Rattle.report.specs.Report.{comparesFactor, comparesLoss}
-use Rattle.report.specs.Records.{sourceIntact, sourcePlace}
+use Rattle.report.specs.Intact.{sourceIntact}
+use Rattle.records.specs.Records.{sourcePlace}
 use Rattle.report.specs.Steps.{Small, totalsWith, totalsOf}
 use Rattle.report.proofs.Summing.{source-at, intact-at, onTo, total-start, total-turn, total-end, small-none, small-more, small-next}
 use Rattle.report.proofs.totals_of.Statement.{statement}

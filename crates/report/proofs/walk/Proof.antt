@@ -9,9 +9,10 @@ use Prim.Native.Nat.{ℕ, _+_, _-_, _≤_}
 use native.Mathlib.Omega.{arith}
 use lib.ListN.{getD}
 use Rattle.report.specs.Report.{Books, sourcesOf, sourceFigure, figuresFrom, booksOf}
-use Rattle.report.specs.Records.{noSource, sourceIntact}
-use Rattle.report.specs.Steps.{parts, figureMeaning, FigureWithin, figureRefusal, Bounded, walkedOf}
-use Rattle.report.specs.declared.records.Source.{Source}
+use Rattle.records.specs.Records.{noSource, heldSource}
+use Rattle.report.specs.Intact.{sourceIntact}
+use Rattle.report.specs.Steps.{sitePlants, figureAt, parts, figureMeaning, FigureWithin, figureRefusal, Bounded, walkedOf}
+use Rattle.records.specs.declared.Source.{Source}
 use Rattle.report.specs.declared.Walked.the-variants.{Refused}
 use Rattle.report.proofs.Summing.{intact-at}
 use Rattle.report.proofs.Walks.{resumed, resumed-first, resumed-last, left, left-none, skips, goes-on, stops, figure-is, none-bounded, bounded-widen, bounded-more}
@@ -31,7 +32,7 @@ abbrev books : tie.At-loop Inv-loop μ-loop → Books
 books c = let a = c .before .before .args in booksOf (a .grid) (a .plants) (a .t3)
 
 abbrev source : tie.At-loop Inv-loop μ-loop → Source
-source c = getD (c .before .before .args .t3) (c .loop .i) noSource .source
+source c = heldSource (getD (c .before .before .args .t3) (c .loop .i) noSource)
 
 empty-requires : tie.Need-empty-requires Inv-loop μ-loop
 empty-requires c κs = search needs
@@ -55,6 +56,9 @@ stands : (c : tie.After-source Inv-loop μ-loop) → let l = c .before .before .
 unfolding noSource
 stands c = rw (c .before .if1 .taken)
 
+source-requires : tie.Need-source-requires Inv-loop μ-loop
+source-requires c κs = search needs
+
 source-figure-requires : tie.Need-source-figure-requires Inv-loop μ-loop
 unfolding noSource
 source-figure-requires c κs =
@@ -62,8 +66,8 @@ source-figure-requires c κs =
     let pre = l .before .before .pre in (
       pre .0,
       pre .1,
-      subst (λ (o : Option Source). sourceIntact o ≡ true) (stands c)
-          (intact-at sourceIntact (books l .source) 32 (l .loop .i) (pre .2) (c .before .before .before .loop-test .taken)),
+      rw (c .source .ensures) (subst (λ (o : Option Source). sourceIntact o ≡ true) (stands c)
+          (intact-at sourceIntact (books l .source) 32 (l .loop .i) (pre .2) (c .before .before .before .loop-test .taken))),
     )
 
 -- The call gave its figure.
@@ -72,7 +76,9 @@ judged : (c : tie.After-source-figure Inv-loop μ-loop)
 unfolding noSource
 judged c =
     let s = c .before .before .before .before .before .before .before in
-    ap parts (figure-is (s .args .grid) (s .args .plants) (s .args .t3) (s .args .totals) _ (s .pre .3)) ∙ sym (c .source-figure .ensures .0)
+    ap parts (figure-is (s .args .grid) (s .args .plants) (s .args .t3) (s .args .totals) _ (s .pre .3))
+    ∙ ap (λ (x : Source). parts (figureAt (s .args .grid) (sitePlants (s .args .plants)) (s .args .totals) x)) (sym (c .before .source .ensures))
+    ∙ sym (c .source-figure .ensures .0)
 
 enum-known-judged : tie.Need-enum-known-judged Inv-loop μ-loop
 enum-known-judged c = search needs
@@ -118,7 +124,7 @@ loop-again c =
     let b : tie.After-source-figure Inv-loop μ-loop =
     record { before = record { before = record { before = c .before; if1 = w .0 }; source = w .1 }; source-figure = w .2 } in
     let told = w .4 .given .1 in
-    rw (w .7 ∙ w .6 .ensures) (
+    rw (w .7 ∙ w .6 .ensures, w .1 .ensures) (
       omega arith,
       sym (goes-on (books l) (l .loop .sums) i h (source l) (stands (b .before)) _ (judged b ∙ ap figureMeaning told)) ∙ l .loop .inv .1,
       bounded-more i _ (source l .side) (l .loop .sums) (subst FigureWithin told (w .2 .ensures .1)) (l .loop .inv .2),
@@ -148,6 +154,7 @@ walk-spec =
     cast-held
     mul-held
     array-copy-out-held
+    source-requires
     source-figure-requires
     enum-known-judged
     enum-told

@@ -2,12 +2,13 @@
 use borrow.Author.Needs.{needs}
 use Prim.Native.Nat.{_≤_}
 use Rattle.metering.specs.Reading.{limit}
+use Rattle.records.specs.Records.{heldSource}
 use Rattle.report.proofs.Summing.{source-fits, share-small}
 use Rattle.report.proofs.with_source.Statement.{statement}
 use Rattle.report.proofs.with_source.Tie as tie
 
-within : (c : tie.Then1) → c .before .args .held .source .energy ≤ limit
-within c = source-fits (c .before .args .held .source) (rw (c .if1 .taken) at (c .before .pre .2)) .1
+within : (c : tie.Then1) → c .before .args .held .energy ≤ limit
+within c = source-fits (heldSource (c .before .args .held)) (rw (c .if1 .taken) at (c .before .pre .2)) .1
 
 compares-factor-requires : tie.Need-compares-factor-requires
 compares-factor-requires c κs = search needs
@@ -17,8 +18,8 @@ share-of-requires c κs = search needs
 
 plus-requires : tie.Need-plus-requires
 plus-requires c κs =
-    let b = c .before .before .before in
-    (b .before .pre .0, rw (c .share-of .ensures) (share-small (b .before .args .held .source .side) _ (c .before .compares-factor .result) (within b)))
+    let b = c .before .before in
+    (b .before .pre .0, rw (c .share-of .ensures) (share-small (b .before .args .held .side) _ (c .before .compares-factor .result) (within b)))
 
 compares-loss-requires : tie.Need-compares-loss-requires
 compares-loss-requires c κs = search needs
@@ -28,8 +29,8 @@ share-of-requires-2 c κs = search needs
 
 plus-requires-2 : tie.Need-plus-requires-2
 plus-requires-2 c κs =
-    let b = c .before .before .before .before .before .before in
-    (b .before .pre .1, rw (c .share-of2 .ensures) (share-small (b .before .args .held .source .side) _ (c .before .compares-loss .result) (within b)))
+    let b = c .before .before .before .before .before in
+    (b .before .pre .1, rw (c .share-of2 .ensures) (share-small (b .before .args .held .side) _ (c .before .compares-loss .result) (within b)))
 
 returns : tie.Need-returns
 returns c =
@@ -41,7 +42,7 @@ returns c =
       b .plus .ensures,
       b .before .share-of .ensures,
       b .before .before .compares-factor .ensures,
-      b .before .before .before .before .if1 .taken,
+      b .before .before .before .if1 .taken,
     )
 
 returns-2 : tie.Need-returns-2

@@ -1,60 +1,38 @@
--- `ledger::Ledger::drop_source` meets its contract: the number, then whether a source stands there. Assumes nothing.
+-- `ledger::Ledger::drop_source` meets its contract: the record under the number is stored as it is kept. Assumes nothing.
 use borrow.Author.Needs.{needs}
-use mathlib.Core.Path.{refl, _∙_}
-use mathlib.Core.List.{List}
-use Rattle.ledger.specs.Standing.{answer}
-use Rattle.report.specs.Records.{noSource}
-use Rattle.ledger.specs.Operations.{step, reply}
-use Rattle.report.specs.declared.records.SourceRecord.{SourceRecord}
-use Rattle.ledger.specs.declared.Ledger.{Ledger}
-use Rattle.ledger.proofs.Judged.{drop-over, drop-leaves, drop-answers}
+use mathlib.Core.Path.{refl, sym, ap, _∙_}
+use Rattle.records.specs.Records.{noSource}
+use Rattle.report.specs.Answers.{answerMeaning}
+use Rattle.ledger.proofs.Stores.{drop-source-stores, drop-source-answers}
 use Rattle.ledger.proofs.Ledger.drop_source.Statement.{statement}
 use Rattle.ledger.proofs.Ledger.drop_source.Tie as tie
 
-returns : tie.Need-returns
-unfolding step reply answer
-returns c =
-    let a = c .before .args in
-    let j = drop-over (λ r. r .stands) (λ r. r .source) noSource (a .t1 .sources) 31 (a .number) (c .if1 .taken) in
-    (rw j, rw j)
+cast-at : tie.Need-cast-at
+cast-at c = search needs
 
-returns-2 : tie.Need-returns-2
-unfolding step reply answer noSource
-returns-2 c =
-    let a = c .before .before .before .before .args in
-    let h = c .before .before .before .if1 .left in
-    let left : List SourceRecord → Ledger = λ rs. record { grid = a .t1 .grid; plants = a .t1 .plants; sources = rs } in (
-      rw (c .before .dropped .ensures) (drop-leaves (λ r. r .stands) (λ r. r .source) noSource (a .t1 .sources) 31 (a .number) h _ refl left),
-      c .drop-answer .ensures ∙ drop-answers (λ r. r .stands) (λ r. r .source) noSource (a .t1 .sources) 31 (a .number) h _ refl,
-    )
+mul-held : tie.Need-mul-held
+mul-held c = search needs
 
-mul-source : tie.Need-mul-source
-mul-source c = search needs
-
-element-copy-out-source : tie.Need-element-copy-out-source
-element-copy-out-source c = search needs
+element-copy-out-held : tie.Need-element-copy-out-held
+element-copy-out-held c = search needs
 
 dropped-requires : tie.Need-dropped-requires
 dropped-requires c κs = search needs
 
-mul-t9 : tie.Need-mul-t9
-mul-t9 c = search needs
+mul-kept : tie.Need-mul-kept
+mul-kept c = search needs
 
-element-set-from-self : tie.Need-element-set-from-self
-element-set-from-self c = search needs
+element-set-from-kept : tie.Need-element-set-from-kept
+element-set-from-kept c = search needs
 
-drop-answer-requires : tie.Need-drop-answer-requires
-drop-answer-requires c κs = search needs
+returns : tie.Need-returns
+unfolding noSource
+returns c =
+    let a = c .before .before .before .args in
+    let e = c .before .dropped .ensures in
+    (rw (e .0) (sym (drop-source-stores (a .t1) (a .number) _ refl)), ap answerMeaning (e .1) ∙ sym (drop-source-answers (a .t1) (a .number) _ refl))
 
 pub drop-source-spec : {M : Type 1} → statement M
 drop-source-spec =
     tie.close
-    (tie.spec
-    returns
-    mul-source
-    element-copy-out-source
-    dropped-requires
-    mul-t9
-    element-set-from-self
-    drop-answer-requires
-    returns-2)
+    (tie.spec cast-at mul-held element-copy-out-held dropped-requires mul-kept element-set-from-kept returns)

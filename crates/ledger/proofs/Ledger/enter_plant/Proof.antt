@@ -1,52 +1,36 @@
--- `ledger::Ledger::enter_plant` meets its contract: as the plant is judged. Assumes nothing.
+-- `ledger::Ledger::enter_plant` meets its contract: the record under the number is stored as it is kept. Assumes nothing.
 use borrow.Author.Needs.{needs}
-use mathlib.Core.Path.{_≡_, sym, ap, _∙_}
-use Prim.Native.Nat.{_≤_}
-use native.Mathlib.Omega.{arith}
-use Rattle.rounding.specs.Outcome.{given}
-use Rattle.report.specs.Records.{plantJudged}
-use Rattle.ledger.specs.Standing.{answer}
-use Rattle.ledger.specs.Operations.{step, reply}
+use mathlib.Core.Path.{sym, ap, _∙_}
 use Rattle.report.specs.Answers.{answerMeaning}
-use Rattle.report.proofs.Judged.{was-refused}
-use Rattle.ledger.proofs.Judged.{plant-accepted}
+use Rattle.ledger.proofs.Stores.{enter-plant-stores, enter-plant-answers}
 use Rattle.ledger.proofs.Ledger.enter_plant.Statement.{statement}
 use Rattle.ledger.proofs.Ledger.enter_plant.Tie as tie
 
-judged-requires : tie.Need-judged-requires
-judged-requires c κs = search needs
+cast-at : tie.Need-cast-at
+cast-at c = search needs
 
-enum-told : tie.Need-enum-told
-enum-told c = search needs
+mul-held : tie.Need-mul-held
+mul-held c = search needs
 
-enum-told-2 : tie.Need-enum-told-2
-enum-told-2 c = search needs
+element-copy-out-held : tie.Need-element-copy-out-held
+element-copy-out-held c = search needs
+
+entered-requires : tie.Need-entered-requires
+entered-requires c κs = search needs
+
+mul-kept : tie.Need-mul-kept
+mul-kept c = search needs
+
+element-set-from-kept : tie.Need-element-set-from-kept
+element-set-from-kept c = search needs
 
 returns : tie.Need-returns
-unfolding step reply answer
 returns c =
     let a = c .before .before .before .args in
-    let e = c .before .before .judged .ensures in
-    (rw (was-refused (plantJudged (a .number) (a .plant)) _ (sym e ∙ ap answerMeaning (c .enum-told2 .given .1))), e)
-
--- The entry was accepted.
-accepted : (c : tie.After-enum-told)
-    → let a = c .before .before .before .args in (plantJudged (a .number) (a .plant) ≡ given (a .plant)) × (a .number ≤ 7)
-accepted c =
-    let a = c .before .before .before .args in
-    plant-accepted (a .number) (a .plant) (sym (c .before .before .judged .ensures) ∙ ap answerMeaning (c .enum-told .given .1))
-
-mul-t9 : tie.Need-mul-t9
-mul-t9 c = search needs
-
-element-set-from-self : tie.Need-element-set-from-self
-element-set-from-self c = omega (arith, accepted c .1)
-
-returns-2 : tie.Need-returns-2
-unfolding step reply answer
-returns-2 c = (rw (accepted c .0), c .before .before .judged .ensures)
+    let e = c .before .entered .ensures in
+    (rw (e .0) (sym (enter-plant-stores (a .t1) (a .number) _ _)), ap answerMeaning (e .1) ∙ sym (enter-plant-answers (a .t1) (a .number) (a .plant)))
 
 pub enter-plant-spec : {M : Type 1} → statement M
 enter-plant-spec =
     tie.close
-    (tie.spec judged-requires enum-told enum-told-2 returns mul-t9 element-set-from-self returns-2)
+    (tie.spec cast-at mul-held element-copy-out-held entered-requires mul-kept element-set-from-kept returns)

@@ -1,4 +1,4 @@
--- `ledger::Ledger::new` meets its contract: nothing entered, and the empty record under each number. Assumes nothing.
+-- `ledger::Ledger::new` meets its contract: the empty record of the grid and under each number. Assumes nothing.
 use borrow.Author.Needs.{needs}
 use Rattle.ledger.specs.Operations.{newLedger}
 use Rattle.ledger.proofs.Ledger.new.Statement.{statement}
@@ -10,9 +10,12 @@ empty-requires c κs = search needs
 empty-requires-2 : tie.Need-empty-requires-2
 empty-requires-2 c κs = search needs
 
+empty-requires-3 : tie.Need-empty-requires-3
+empty-requires-3 c κs = search needs
+
 returns : tie.Need-returns
 unfolding newLedger
-returns c = rw (c .before .empty .ensures, c .empty2 .ensures)
+returns c = rw (c .before .before .empty .ensures, c .before .empty2 .ensures, c .empty3 .ensures)
 
 pub new-spec : {M : Type 1} → statement M
-new-spec = tie.close (tie.spec empty-requires empty-requires-2 returns)
+new-spec = tie.close (tie.spec empty-requires empty-requires-2 empty-requires-3 returns)

@@ -1,0 +1,129 @@
+-- How an entry and a drop are judged, test by test in the order of the code, and what an answer says of it. Assumes nothing.
+use Prim.Native.Nat.{ℕ, _+_, _≤_, _<_}
+use mathlib.Core.Path.{_≡_, refl, sym, ap, _∙_}
+use mathlib.Core.Bool.{Bool, true, false, not, Bool·beq, _&&_}
+use mathlib.Core.List.{List}
+use native.Mathlib.Numerals.{add-one}
+use native.Mathlib.Omega.{arith}
+use lib.Dec.{leb}
+use lib.ListN.{length, take, drop, getD, drop-of-length-le}
+use lib.Seq.{drop-cons, getD-take, length-take-le}
+use borrow.Author.Tests.{le-leb, lt-leb}
+use Rattle.rounding.specs.Outcome.{Outcome, refused, given, refuseUnless}
+use Rattle.rounding.proofs.Outcomes.{given-is, test-held}
+use Rattle.metering.specs.Energy.{judgedMeters, settledEnergy}
+use Rattle.metering.specs.declared.MetersJudged.{MetersJudged}
+use Rattle.metering.specs.declared.EnergyJudged.{EnergyJudged}
+use Rattle.fuel.specs.Fuel.{withinLimits}
+use Rattle.fuel.specs.declared.FuelLine.{FuelLine}
+use Rattle.emissions.specs.Factor.{direction}
+use Rattle.records.specs.Judging.{linesOf, allWithinLimits, plantJudged, siteFits, lossFits, lossMatches, onRead, onEnergy, kept, sourceJudged, answerOf}
+use Rattle.records.specs.declared.Answer.the-variants.{Accepted, Refused}
+use Rattle.records.specs.declared.Plant.{Plant}
+use Rattle.records.specs.declared.SourceEntry.{SourceEntry}
+use Rattle.records.specs.declared.Source.{Source}
+
+-- ---- a test
+
+-- What a value is that was tested to be false, and came out as t.
+pub tested : (r b : Bool) → r ≡ b → (t : Bool) → Bool·beq r false ≡ t → b ≡ not t
+tested true b e t q = sym e ∙ ap not q
+tested false b e t q = sym e ∙ ap not q
+
+-- ---- an answer
+
+never-accepted : {n : ℕ} → Accepted ≡ Refused n → ⊥
+never-accepted e = let z : _≡_ {A = ℕ} 0 1 = cc in omega arith
+
+-- Where a refusal is answered, there was that refusal; where the answer is that an entry is accepted, something was given.
+pub was-refused : {A : Type 0} (o : Outcome A) (n : ℕ) → answerOf o ≡ Refused n → o ≡ refused n
+was-refused (refused k) n e = cc
+was-refused (given a) n e = absurd (never-accepted e)
+
+pub was-given : {A : Type 0} (o : Outcome A) → answerOf o ≡ Accepted → (a : A) × (o ≡ given a)
+was-given (refused k) e = absurd (never-accepted (sym e))
+was-given (given a) e = (a, refl)
+
+-- ---- a plant's lines
+
+-- Line i and those after it, where i is one of the first n.
+pub next-line : (ls : List FuelLine) (n i : ℕ) (d : FuelLine) (t : Bool) → i < n → n ≤ length ls → withinLimits (getD ls i d) ≡ t
+    → allWithinLimits (drop i (take n ls)) ≡ (t && allWithinLimits (drop (i + 1) (take n ls)))
+unfolding allWithinLimits
+next-line ls n i d t h k e =
+    let m : i < length (take n ls) = rw (length-take-le n ls k) h in
+    rw (add-one, drop-cons (take n ls) i d m, getD-take n ls i d h, e)
+
+pub no-line : (ls : List FuelLine) (n i : ℕ) → n ≤ i → n ≤ length ls → allWithinLimits (drop i (take n ls)) ≡ true
+unfolding allWithinLimits
+no-line ls n i h k =
+    let m : length (take n ls) ≤ i = rw (length-take-le n ls k) h in
+    rw (drop-of-length-le (take n ls) m)
+
+-- ---- a plant
+
+module _ (n : ℕ) (p : Plant) where
+  pub plant-number : 7 < n → plantJudged n p ≡ refused 1
+  unfolding plantJudged
+  plant-number h = rw (lt-leb n 7 h)
+
+  module _ (h : n ≤ 7) where
+    pub plant-site : 3 < p .site → plantJudged n p ≡ refused 1
+    unfolding plantJudged
+    plant-site k = rw (le-leb n 7 h, lt-leb (p .site) 3 k)
+
+    module _ (k : p .site ≤ 3) where
+      pub plant-count : 4 < p .count → plantJudged n p ≡ refused 2
+      unfolding plantJudged
+      plant-count m = rw (le-leb n 7 h, le-leb (p .site) 3 k, lt-leb (p .count) 4 m)
+
+      module _ (m : p .count ≤ 4) where
+        pub plant-generation : 100000000 < p .generation → plantJudged n p ≡ refused 2
+        unfolding plantJudged
+        plant-generation g = rw (le-leb n 7 h, le-leb (p .site) 3 k, le-leb (p .count) 4 m, lt-leb (p .generation) 100000000 g)
+
+        -- The lines decide where the numbers let the plant through.
+        pub plant-lines : p .generation ≤ 100000000 → (t : Bool) → allWithinLimits (take (p .count) (p .lines)) ≡ t
+            → plantJudged n p ≡ refuseUnless 2 t (given p)
+        unfolding plantJudged linesOf
+        plant-lines g t e = rw (le-leb n 7 h, le-leb (p .site) 3 k, le-leb (p .count) 4 m, le-leb (p .generation) 100000000 g, e)
+
+-- A plant is given as it was entered.
+pub plant-given : (n : ℕ) (p a : Plant) → plantJudged n p ≡ given a → a ≡ p
+unfolding plantJudged
+plant-given n p a e =
+    let q = test-held 1 (leb n 7 && leb (p .site) 3) _ e in
+    let r = test-held 2 (leb (p .count) 4 && leb (p .generation) 100000000 && allWithinLimits (linesOf p)) (given p) (q .1) in
+    sym (given-is (r .1))
+
+pub plant-accepted : (n : ℕ) (p : Plant) → answerOf (plantJudged n p) ≡ Accepted → plantJudged n p ≡ given p
+plant-accepted n p e = let g = was-given (plantJudged n p) e in g .1 ∙ ap given (plant-given n p (g .0) (g .1))
+
+-- ---- a source
+
+-- What follows from the energy, and from the meters' sums.
+abbrev pub settled : SourceEntry → EnergyJudged → Outcome Source
+settled e j = onEnergy j (λ E. given (kept e E))
+
+abbrev pub summed : SourceEntry → MetersJudged → Outcome Source
+summed e j = onRead j (λ adds takes. refuseUnless 5 (lossMatches (e .supply) (e .loss)) (settled e (settledEnergy adds takes)))
+
+module _ (n : ℕ) (e : SourceEntry) where
+  pub source-number : 31 < n → sourceJudged n e ≡ refused 1
+  unfolding sourceJudged
+  source-number h = rw (lt-leb n 31 h)
+
+  module _ (h : n ≤ 31) where
+    pub source-site : siteFits (e .supply) ≡ false → sourceJudged n e ≡ refused 1
+    unfolding sourceJudged
+    source-site s = rw (le-leb n 31 h, s)
+
+    module _ (s : siteFits (e .supply) ≡ true) where
+      pub source-loss : lossFits (e .loss) ≡ false → sourceJudged n e ≡ refused 2
+      unfolding sourceJudged
+      source-loss t = rw (le-leb n 31 h, s, t)
+
+      pub source-sums : lossFits (e .loss) ≡ true → (j : MetersJudged) → judgedMeters (direction (e .side)) (e .count) (e .meters) ≡ j
+          → sourceJudged n e ≡ summed e j
+      unfolding sourceJudged
+      source-sums t j r = rw (le-leb n 31 h, s, t, r)

@@ -1,0 +1,133 @@
+-- When an entry or a drop is refused, and with which number (document 01, "How each operation declines").
+use Prim.Native.Nat.{ℕ}
+use mathlib.Core.Bool.{Bool, true, false, _&&_}
+use mathlib.Core.List.{List, [], _∷_}
+use mathlib.Core.Option.{Option, none, some}
+use lib.Dec.{leb}
+use lib.ListN.{take}
+use Rattle.rounding.specs.Outcome.{Outcome, refused, given, refuseUnless}
+use Rattle.metering.specs.Energy.{judgedMeters, settledEnergy}
+use Rattle.metering.specs.declared.Meter.{Meter}
+use Rattle.metering.specs.declared.MetersJudged.{MetersJudged}
+use Rattle.metering.specs.declared.MetersJudged.the-variants as metersJudged
+use Rattle.metering.specs.declared.EnergyJudged.{EnergyJudged}
+use Rattle.metering.specs.declared.EnergyJudged.the-variants as energyJudged
+use Rattle.fuel.specs.Fuel.{withinLimits}
+use Rattle.fuel.specs.declared.FuelLine.{FuelLine}
+use Rattle.emissions.specs.Factor.{factorLimit, direction}
+use Rattle.emissions.specs.declared.GridEntry.{GridEntry}
+use Rattle.emissions.specs.declared.Supply.{Supply}
+use Rattle.emissions.specs.declared.Supply.the-variants.{Combined, GridDefault, Captive, CaptiveDefault, Either}
+use Rattle.emissions.specs.declared.Loss.{Loss}
+use Rattle.emissions.specs.declared.Loss.the-variants.{Nothing, Measured, Default20, Default3}
+use Rattle.records.specs.declared.Plant.{Plant}
+use Rattle.records.specs.declared.SourceEntry.{SourceEntry}
+use Rattle.records.specs.declared.Source.{Source}
+use Rattle.records.specs.declared.Answer.{Answer}
+use Rattle.records.specs.declared.Answer.the-variants.{Accepted, Refused}
+
+-- ---- "Grid entry: 2 factor above 10,000,000."
+
+unfoldable pub gridJudged : GridEntry → Outcome GridEntry
+gridJudged g = refuseUnless 2 (leb (g .margin) factorLimit) (given g)
+
+-- ---- "Plant entry: 1 plant above 7 or site above 3. 2 more than 4 fuel lines, generation above 100,000,000 kWh, Q .. V .. or C .."
+
+-- The plant's fuel lines: the first `count` ones.
+unfoldable pub linesOf : Plant → List FuelLine
+linesOf p = take (p .count) (p .lines)
+
+unfoldable pub allWithinLimits : List FuelLine → Bool
+allWithinLimits [] = true
+allWithinLimits (l ∷ ls) = withinLimits l && allWithinLimits ls
+
+unfoldable pub plantJudged : ℕ → Plant → Outcome Plant
+plantJudged number p =
+    refuseUnless 1 (leb number 7 && leb (p .site) 3)
+    (refuseUnless 2 (leb (p .count) 4 && leb (p .generation) 100000000 && allWithinLimits (linesOf p))
+    (given p))
+
+-- ---- "Source entry: 1 source above 31 or site above 3. 2 meters not 1 to 4, or measured loss above 5,000. 3 .. 4 .. 5 .. 6 .."
+
+-- The site that a supply names is at most 3.
+abbrev pub siteFits : Supply → Bool
+siteFits Combined = true
+siteFits GridDefault = true
+siteFits (Captive S) = leb S 3
+siteFits CaptiveDefault = true
+siteFits (Either S) = leb S 3
+
+-- A measured loss is at most 5,000.
+abbrev pub lossFits : Loss → Bool
+lossFits Nothing = true
+lossFits (Measured T) = leb T 5000
+lossFits Default20 = true
+lossFits Default3 = true
+
+abbrev pub isNothing : Loss → Bool
+isNothing Nothing = true
+isNothing (Measured T) = false
+isNothing Default20 = false
+isNothing Default3 = false
+
+abbrev pub isSomething : Loss → Bool
+isSomething Nothing = false
+isSomething (Measured T) = true
+isSomething Default20 = true
+isSomething Default3 = true
+
+-- "5 loss none with combined, griddefault or either, or another loss with captive or captivedefault."
+abbrev pub lossMatches : Supply → Loss → Bool
+lossMatches Combined l = isSomething l
+lossMatches GridDefault l = isSomething l
+lossMatches (Captive S) l = isNothing l
+lossMatches CaptiveDefault l = isNothing l
+lossMatches (Either S) l = isSomething l
+
+-- The source's meters: the first `count` ones.
+unfoldable pub metersOf : SourceEntry → List Meter
+metersOf e = take (e .count) (e .meters)
+
+-- What follows from the meters' sums, and from the energy; a refusal is handed up.
+abbrev pub onRead : {A : Type 0} → MetersJudged → (ℕ → ℕ → Outcome A) → Outcome A
+onRead (metersJudged.Refused n) f = refused n
+onRead (metersJudged.Read adds takes) f = f adds takes
+
+abbrev pub onEnergy : {A : Type 0} → EnergyJudged → (ℕ → Outcome A) → Outcome A
+onEnergy (energyJudged.Refused n) f = refused n
+onEnergy (energyJudged.Accepted E) f = f E
+
+-- The source that is kept of an entry with the energy E.
+abbrev pub kept : SourceEntry → ℕ → Source
+kept e E = record { side = e .side; supply = e .supply; loss = e .loss; energy = E }
+
+-- Numbers 2, 3 and 4 of the meters and number 6 are those of the crate `metering`.
+unfoldable pub sourceJudged : ℕ → SourceEntry → Outcome Source
+sourceJudged number e =
+    refuseUnless 1 (leb number 31 && siteFits (e .supply))
+    (refuseUnless 2 (lossFits (e .loss))
+    (onRead (judgedMeters (direction (e .side)) (e .count) (e .meters)) (λ adds takes.
+    refuseUnless 5 (lossMatches (e .supply) (e .loss))
+    (onEnergy (settledEnergy adds takes) (λ E.
+    given (kept e E))))))
+
+-- ---- "Drop: 1 number above its range. 7 nothing stands there."
+
+abbrev pub isThere : {A : Type 0} → Option A → Bool
+isThere none = false
+isThere (some a) = true
+
+unfoldable pub dropJudged : ℕ → Bool → ℕ → Outcome (Unit {0})
+dropJudged last stands number = refuseUnless 1 (leb number last) (refuseUnless 7 stands (given tt))
+
+-- ---- what is answered and what is left
+
+-- "A refusal returns its number".
+abbrev pub answerOf : {A : Type 0} → Outcome A → Answer
+answerOf (refused n) = Refused n
+answerOf (given a) = Accepted
+
+-- "A refused call .. alters nothing."
+abbrev pub whereGiven : {A : Type 0} {S : Type 0} → Outcome A → (A → S) → S → S
+whereGiven (refused n) f s = s
+whereGiven (given a) f s = f a

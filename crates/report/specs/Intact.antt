@@ -1,0 +1,33 @@
+-- Whether what a ledger shows meets the limits that an accepted entry meets. A ledger that a list of calls leaves does.
+use Prim.Native.Nat.{ℕ, zero, suc}
+use mathlib.Core.Bool.{Bool, true, false, _&&_}
+use mathlib.Core.Option.{Option, none, some}
+use lib.Dec.{leb}
+use Rattle.metering.specs.Reading.{limit}
+use Rattle.rounding.specs.Outcome.{Outcome, refused, given}
+use Rattle.emissions.specs.Factor.{factorLimit}
+use Rattle.emissions.specs.declared.Grid.{Grid}
+use Rattle.emissions.specs.declared.Grid.the-variants.{Absent, Entered}
+use Rattle.records.specs.Judging.{plantJudged, siteFits, lossFits, lossMatches}
+use Rattle.records.specs.declared.Plant.{Plant}
+use Rattle.records.specs.declared.Source.{Source}
+
+abbrev pub gridIntact : Grid → Bool
+gridIntact Absent = true
+gridIntact (Entered g) = leb (g .margin) factorLimit
+
+abbrev pub isGiven : {A : Type 0} → Outcome A → Bool
+isGiven (refused n) = false
+isGiven (given a) = true
+
+abbrev pub plantIntact : Option Plant → Bool
+plantIntact none = true
+plantIntact (some p) = isGiven (plantJudged 0 p)
+
+abbrev pub sourceIntact : Option Source → Bool
+sourceIntact none = true
+sourceIntact (some s) = siteFits (s .supply) && lossFits (s .loss) && lossMatches (s .supply) (s .loss) && leb (s .energy) limit
+
+unfoldable pub allIntact : {A : Type 0} → (Option A → Bool) → (ℕ → Option A) → ℕ → Bool
+allIntact p place zero = true
+allIntact p place (suc n) = p (place n) && allIntact p place n
