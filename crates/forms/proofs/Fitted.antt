@@ -23,7 +23,7 @@ use Rattle.emissions.specs.declared.Supply.{Supply}
 use Rattle.emissions.specs.declared.Supply.the-variants.{Combined, GridDefault, Captive, CaptiveDefault, Either}
 use Rattle.emissions.specs.declared.Loss.{Loss}
 use Rattle.emissions.specs.declared.Loss.the-variants.{Nothing, Measured, Default20, Default3}
-use Rattle.records.specs.Judging.{gridJudged, sourceJudged, isThere, dropJudged, linesOf, allWithinLimits, plantJudged, siteFits, lossFits, whereGiven}
+use Rattle.records.specs.Judging.{gridJudged, sourceJudged, isThere, dropJudged, linesOf, allWithinLimits, plantJudged, supplyWithinLimits, lossWithinLimits, whereGiven}
 use Rattle.records.specs.Records.{noPlant, noSource, plantRecord, sourceRecord}
 use Rattle.ledger.specs.Standing.{answer}
 use Rattle.report.specs.Report.{acknowledged}
@@ -170,27 +170,27 @@ module _ (n S G : ℕ) (ls : List FuelLine) where
 
 -- ---- a source
 
-site-same : (s : Supply) → siteFits (fittedSupply s) ≡ siteFits s
+site-same : (s : Supply) → supplyWithinLimits (fittedSupply s) ≡ supplyWithinLimits s
 site-same Combined = refl
 site-same GridDefault = refl
 site-same (Captive S) = same-limit 255 3 S (omega arith)
 site-same CaptiveDefault = refl
 site-same (Either S) = same-limit 255 3 S (omega arith)
 
-supply-unchanged : (s : Supply) → siteFits s ≡ true → fittedSupply s ≡ s
+supply-unchanged : (s : Supply) → supplyWithinLimits s ≡ true → fittedSupply s ≡ s
 supply-unchanged Combined e = refl
 supply-unchanged GridDefault e = refl
 supply-unchanged (Captive S) e = ap Captive (unchanged 255 3 S (omega arith) e)
 supply-unchanged CaptiveDefault e = refl
 supply-unchanged (Either S) e = ap Either (unchanged 255 3 S (omega arith) e)
 
-loss-same : (l : Loss) → lossFits (fittedLoss l) ≡ lossFits l
+loss-same : (l : Loss) → lossWithinLimits (fittedLoss l) ≡ lossWithinLimits l
 loss-same (Measured T) = same-limit 65535 5000 T (omega arith)
 loss-same Default20 = refl
 loss-same Default3 = refl
 loss-same Nothing = refl
 
-loss-unchanged : (l : Loss) → lossFits l ≡ true → fittedLoss l ≡ l
+loss-unchanged : (l : Loss) → lossWithinLimits l ≡ true → fittedLoss l ≡ l
 loss-unchanged (Measured T) e = ap Measured (unchanged 65535 5000 T (omega arith) e)
 loss-unchanged Default20 e = refl
 loss-unchanged Default3 e = refl
@@ -211,10 +211,10 @@ meters-same dir c ms =
 source-same : (n : ℕ) (e : SourceEntry) → sourceJudged (byteField n) (fittedSource e) ≡ sourceJudged n e
 unfolding sourceJudged
 source-same n e =
-    test-same 1 _ (leb n 31 && siteFits (e .supply)) _ _
-    (both-same _ (leb n 31) _ (siteFits (e .supply)) (same-limit 255 31 n (omega arith)) (λ h. site-same (e .supply)))
+    test-same 1 _ (leb n 31 && supplyWithinLimits (e .supply)) _ _
+    (both-same _ (leb n 31) _ (supplyWithinLimits (e .supply)) (same-limit 255 31 n (omega arith)) (λ h. site-same (e .supply)))
     (λ p.
-    test-same 2 _ (lossFits (e .loss)) _ _ (loss-same (e .loss))
+    test-same 2 _ (lossWithinLimits (e .loss)) _ _ (loss-same (e .loss))
     (λ q.
     rw (
       supply-unchanged (e .supply) (and-both (leb n 31) _ p .1),

@@ -5,7 +5,6 @@ use mathlib.Core.Option.{some}
 use Prim.Native.Nat.{ℕ}
 use Rattle.text.specs.Digits.{leadingDigits, digitValue}
 use Rattle.text.specs.Template.{filled, placesOf, Read, pieceIn, numbersIn, templateIn}
-use Rattle.text.specs.Word.{bytes}
 use Rattle.text.proofs.Templates.{Parted}
 use Rattle.metering.specs.declared.Sign.the-variants.{Plus, Minus}
 use Rattle.fuel.specs.declared.FuelLine.{FuelLine}
@@ -17,6 +16,7 @@ use Rattle.emissions.specs.declared.Supply.{Supply}
 use Rattle.emissions.specs.declared.Supply.the-variants.{Combined, GridDefault, Captive, CaptiveDefault, Either}
 use Rattle.emissions.specs.declared.Loss.{Loss}
 use Rattle.emissions.specs.declared.Loss.the-variants.{Nothing, Measured, Default20, Default3}
+use Rattle.forms.specs.Templates.{closing}
 use Rattle.forms.specs.Form.{MeterForm, whole, single, kindText, sideText, supplyText, lossText, meterText, fuelText, allText, All, FuelWritable, SupplyWritable, LossWritable, MeterWritable}
 use Rattle.forms.specs.Reading.{oneOf, manyOf, kinds, sides, supplies, losses, meters, fuels}
 use Rattle.forms.proofs.Tables.{Stands, one-stands, this-row, later-row, many-stand, many-read-back}
@@ -109,17 +109,17 @@ pub fuels-stand : (t : List ℕ) → Stands (allText fuelText) (All FuelWritable
 fuels-stand = many-stand fuelText FuelWritable fuels fuel-stands
 
 pub meters-read-back : (parts : List MeterForm) → All MeterWritable parts
-    → manyOf meters (allText meterText parts ++ bytes ")") ≡ record { value = parts; rest = bytes ")" }
+    → manyOf meters (allText meterText parts ++ closing) ≡ record { value = parts; rest = closing }
 unfolding oneOf meters templateIn numbersIn pieceIn
-meters-read-back = many-read-back meterText MeterWritable meters meter-reads-back (bytes ")") refl
+meters-read-back = many-read-back meterText MeterWritable meters meter-reads-back closing refl
 
 pub fuels-read-back : (lines : List FuelLine) → All FuelWritable lines
-    → manyOf fuels (allText fuelText lines ++ bytes ")") ≡ record { value = lines; rest = bytes ")" }
+    → manyOf fuels (allText fuelText lines ++ closing) ≡ record { value = lines; rest = closing }
 unfolding oneOf fuels templateIn numbersIn pieceIn
-fuels-read-back = many-read-back fuelText FuelWritable fuels fuel-reads-back (bytes ")") refl
+fuels-read-back = many-read-back fuelText FuelWritable fuels fuel-reads-back closing refl
 
 -- No digit follows the last number of a plant.
-pub fuels-parted : (lines : List FuelLine) → leadingDigits 10 (allText fuelText lines ++ bytes ")") ≡ []
+pub fuels-parted : (lines : List FuelLine) → leadingDigits 10 (allText fuelText lines ++ closing) ≡ []
 unfolding leadingDigits digitValue allText filled
 fuels-parted [] = refl
 fuels-parted (l ∷ lines) = refl

@@ -18,7 +18,8 @@ use Rattle.emissions.specs.declared.GridKind.{GridKind}
 use Rattle.emissions.specs.declared.Side.{Side}
 use Rattle.emissions.specs.declared.Supply.{Supply}
 use Rattle.emissions.specs.declared.Loss.{Loss}
-use Rattle.forms.specs.Form.{MeterForm, Form, grid, plant, source, dropSource, dropPlant, report, kindText, sideText, supplyText, lossText, allText, meterText, fuelText, openText, formText, Decimal, Writable}
+use Rattle.forms.specs.Templates.{gridOpening, plantOpening, sourceOpening, closing}
+use Rattle.forms.specs.Form.{MeterForm, Form, grid, plant, source, dropSource, dropPlant, report, kindText, sideText, supplyText, lossText, allText, meterText, fuelText, openText, formText, Decimal, Writable, lineLimit, LineStands}
 use Rattle.forms.specs.Reading.{oneOf, kinds, sides, supplies, losses, meters, fuels, manyOf, gridIn, withLines, plantIn, withMeters, sourceIn, others, openingIn, isClosing, formIn, lineForm}
 use Rattle.forms.proofs.Tables.{Stands, either-read, then-read, else-read, on-read, on-map, on-template, one-stands, this-row, later-row}
 use Rattle.forms.proofs.Parts.{kind-stands, side-stands, supply-stands, loss-stands, meters-stand, fuels-stand, kind-reads-back, side-reads-back, supply-reads-back, loss-reads-back, meters-read-back, fuels-read-back, fuels-parted}
@@ -32,24 +33,24 @@ module _ (t : List ℕ) (r : Read Form) where
   grid-stands : gridIn t ≡ some r → Opens t r
   unfolding gridIn openText placesOf
   grid-stands e =
-      on-read (templateIn (bytes "(grid # ") t) (λ n t1. mapRead (grid (n .first)) (oneOf kinds t1)) r e λ n e1 e2.
+      on-read (templateIn gridOpening t) (λ n t1. mapRead (grid (n .first)) (oneOf kinds t1)) r e λ n e1 e2.
       on-map (Opens t) (grid (n .value .first)) (oneOf kinds (n .rest)) r e2 λ k e3.
-      on-template (λ n. Opens t (record { value = grid (n .first) (k .value); rest = k .rest })) (bytes "(grid # ") t n e1 λ F h text.
+      on-template (λ n. Opens t (record { value = grid (n .first) (k .value); rest = k .rest })) gridOpening t n e1 λ F h text.
       record { stands = rw (append-assoc, ← (kind-stands (n .rest) k e3 .stands)) text; writable = h }
 
   plant-stands : plantIn t ≡ some r → Opens t r
   unfolding plantIn openText placesOf
   plant-stands e =
-      on-read (templateIn (bytes "(plant # # #") t) (λ n t1. some (withLines n (manyOf fuels t1))) r e λ n e1 e2.
+      on-read (templateIn plantOpening t) (λ n t1. some (withLines n (manyOf fuels t1))) r e λ n e1 e2.
       let l = fuels-stand (n .rest) in
       subst (Opens t) (Option·some-inj .0 e2)
-      (on-template (λ m. Opens t (withLines m (manyOf fuels (n .rest)))) (bytes "(plant # # #") t n e1 λ N h S i G j text.
+      (on-template (λ m. Opens t (withLines m (manyOf fuels (n .rest)))) plantOpening t n e1 λ N h S i G j text.
       record { stands = rw (append-assoc, ← (l .stands)) text; writable = (h, i, j, l .writable) })
 
   source-stands : sourceIn t ≡ some r → Opens t r
   unfolding sourceIn openText placesOf
   source-stands e =
-      on-read (templateIn (bytes "(source # ") t) _ r e λ n e1 e.
+      on-read (templateIn sourceOpening t) _ r e λ n e1 e.
       on-read (oneOf sides (n .rest)) _ r e λ side e2 e.
       on-read (oneOf supplies (side .rest)) _ r e λ supply e3 e.
       on-read (oneOf losses (supply .rest)) _ r e λ loss e4 e.
@@ -59,7 +60,7 @@ module _ (t : List ℕ) (r : Read Form) where
       let m = meters-stand (loss .rest) in
       let made : ℕ → Read Form = λ N. withMeters N (side .value) (supply .value) (loss .value) (manyOf meters (loss .rest)) in
       subst (Opens t) (Option·some-inj .0 e)
-      (on-template (λ n. Opens t (made (n .first))) (bytes "(source # ") t n e1 λ N h text.
+      (on-template (λ n. Opens t (made (n .first))) sourceOpening t n e1 λ N h text.
       record {
         stands = simp (append-assoc, ← (m .stands), ← (l .stands), ← (p .stands), ← (s .stands)) text;
         writable = (h, p .writable, l .writable, m .writable);
@@ -76,7 +77,7 @@ module _ (t : List ℕ) (r : Read Form) where
       either-read (plantIn t) _ r e plant-stands λ e.
       either-read (sourceIn t) _ r e source-stands other-stands
 
-closing-is : (rest : List ℕ) → isClosing rest ≡ true → rest ≡ bytes ")"
+closing-is : (rest : List ℕ) → isClosing rest ≡ true → rest ≡ closing
 unfolding isClosing
 closing-is [] e = absurd (false≢true e)
 closing-is (b ∷ []) e = rw (eqb-true b 41 e)
@@ -89,38 +90,38 @@ abbrev OpensWith : List ℕ → List ℕ → List ℕ → Type 0
 OpensWith w ns rest = templateIn w (filled w ns ++ rest) ≡ some (record { value = numbersOf ns; rest = rest })
 
 module _ (N : ℕ) (h : Decimal N) (rest : List ℕ) where
-  grid-opens : OpensWith (bytes "(grid # ") (N ∷ []) rest
+  grid-opens : OpensWith gridOpening (N ∷ []) rest
   unfolding placesOf filled Parted leadingDigits digitValue
-  grid-opens = template-reads-back (bytes "(grid # ") (N ∷ []) rest (h, tt) (refl, tt)
+  grid-opens = template-reads-back gridOpening (N ∷ []) rest (h, tt) (refl, tt)
 
-  source-opens : OpensWith (bytes "(source # ") (N ∷ []) rest
+  source-opens : OpensWith sourceOpening (N ∷ []) rest
   unfolding placesOf filled Parted leadingDigits digitValue
-  source-opens = template-reads-back (bytes "(source # ") (N ∷ []) rest (h, tt) (refl, tt)
+  source-opens = template-reads-back sourceOpening (N ∷ []) rest (h, tt) (refl, tt)
 
-  plant-opens : (S G : ℕ) → Decimal S → Decimal G → leadingDigits 10 rest ≡ [] → OpensWith (bytes "(plant # # #") (N ∷ S ∷ G ∷ []) rest
+  plant-opens : (S G : ℕ) → Decimal S → Decimal G → leadingDigits 10 rest ≡ [] → OpensWith plantOpening (N ∷ S ∷ G ∷ []) rest
   unfolding placesOf filled Parted leadingDigits digitValue
   plant-opens S G i j parted =
-      template-reads-back (bytes "(plant # # #") (N ∷ S ∷ G ∷ []) rest (h, (i, (j, tt))) (refl, (refl, (parted, tt)))
+      template-reads-back plantOpening (N ∷ S ∷ G ∷ []) rest (h, (i, (j, tt))) (refl, (refl, (parted, tt)))
 
 -- The form is read, up to the bracket that closes it.
 abbrev Opened : Form → Option (Read Form)
-Opened f = some (record { value = f; rest = bytes ")" })
+Opened f = some (record { value = f; rest = closing })
 
 grid-reads-back : (F : ℕ) (kind : GridKind) → Writable (grid F kind) → gridIn (formText (grid F kind)) ≡ Opened (grid F kind)
 unfolding gridIn openText
-grid-reads-back F kind h = rw (append-assoc, grid-opens F h (kindText kind ++ bytes ")"), kind-reads-back (bytes ")") kind)
+grid-reads-back F kind h = rw (append-assoc, grid-opens F h (kindText kind ++ closing), kind-reads-back closing kind)
 
 plant-reads-back : (N S G : ℕ) (lines : List FuelLine) → Writable (plant N S G lines)
     → plantIn (formText (plant N S G lines)) ≡ Opened (plant N S G lines)
 unfolding plantIn openText
 plant-reads-back N S G lines h =
-    rw (append-assoc, plant-opens N (h .0) (allText fuelText lines ++ bytes ")") S G (h .1) (h .2) (fuels-parted lines), fuels-read-back lines (h .3))
+    rw (append-assoc, plant-opens N (h .0) (allText fuelText lines ++ closing) S G (h .1) (h .2) (fuels-parted lines), fuels-read-back lines (h .3))
 
 source-reads-back : (N : ℕ) (side : Side) (supply : Supply) (loss : Loss) (meters : List MeterForm) → Writable (source N side supply loss meters)
     → sourceIn (formText (source N side supply loss meters)) ≡ Opened (source N side supply loss meters)
 unfolding sourceIn openText
 source-reads-back N side supply loss meters h =
-    let r4 = allText meterText meters ++ bytes ")" in
+    let r4 = allText meterText meters ++ closing in
     let r3 = lossText loss ++ r4 in
     let r2 = supplyText supply ++ r3 in
     simp append-assoc
@@ -138,11 +139,11 @@ opening-reads-back (grid F kind) h = then-read _ (grid-reads-back F kind h)
 opening-reads-back (plant N S G lines) h = else-read refl (then-read _ (plant-reads-back N S G lines h))
 opening-reads-back (source N side supply loss meters) h = else-read refl (else-read refl (then-read _ (source-reads-back N side supply loss meters h)))
 opening-reads-back (dropSource N) h =
-    else-read refl (else-read refl (else-read refl (this-row _ _ (N ∷ []) (bytes ")") (h, tt) (refl, tt))))
+    else-read refl (else-read refl (else-read refl (this-row _ _ (N ∷ []) closing (h, tt) (refl, tt))))
 opening-reads-back (dropPlant N) h =
-    else-read refl (else-read refl (else-read refl (later-row _ _ _ refl (this-row _ _ (N ∷ []) (bytes ")") (h, tt) (refl, tt)))))
+    else-read refl (else-read refl (else-read refl (later-row _ _ _ refl (this-row _ _ (N ∷ []) closing (h, tt) (refl, tt)))))
 opening-reads-back report h =
-    else-read refl (else-read refl (else-read refl (later-row _ _ _ refl (later-row _ _ _ refl (this-row _ _ [] (bytes ")") tt tt)))))
+    else-read refl (else-read refl (else-read refl (later-row _ _ _ refl (later-row _ _ _ refl (this-row _ _ [] closing tt tt)))))
 
 -- ---- the two ways
 
@@ -164,22 +165,16 @@ form-stands t f e = on-read (openingIn t) _ f e λ r e1 e2. closed r (opening-st
 pub form-text-once : (f g : Form) → Writable f → Writable g → formText f ≡ formText g → f ≡ g
 form-text-once f g h k e = Option·some-inj .0 (sym (form-reads-back f h) ∙ (ap formIn e ∙ form-reads-back g k))
 
--- A line of at most 256 bytes that is the form's text.
-pub record LineStands (line : List ℕ) (f : Form) : Type 0 where
-  pub text : line ≡ formText f
-  pub writable : Writable f
-  pub short : length line ≤ 256
-
-pub line-reads-back : (f : Form) → Writable f → length (formText f) ≤ 256 → lineForm (formText f) ≡ some f
+pub line-reads-back : (f : Form) → Writable f → length (formText f) ≤ lineLimit → lineForm (formText f) ≡ some f
 unfolding lineForm
-line-reads-back f h l = rw (le-leb (length (formText f)) 256 l) (form-reads-back f h)
+line-reads-back f h l = rw (le-leb (length (formText f)) lineLimit l) (form-reads-back f h)
 
 pub line-stands : (line : List ℕ) (f : Form) → lineForm line ≡ some f → LineStands line f
 unfolding lineForm
-line-stands line f e = go (leb (length line) 256) refl e
+line-stands line f e = go (leb (length line) lineLimit) refl e
   where
-    go : (c : Bool) → leb (length line) 256 ≡ c → cond c (formIn line) none ≡ some f → LineStands line f
-    go true c e = let s = form-stands line f e in record { text = s .0; writable = s .1; short = leb-true (length line) 256 c }
+    go : (c : Bool) → leb (length line) lineLimit ≡ c → cond c (formIn line) none ≡ some f → LineStands line f
+    go true c e = let s = form-stands line f e in record { text = s .0; writable = s .1; short = leb-true (length line) lineLimit c }
     go false c e = absurd (Option·none-ne-some f e)
 
 -- A line is read as a form exactly when it is that form's text.

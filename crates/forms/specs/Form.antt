@@ -1,8 +1,8 @@
--- The forms of a line, as written, and their text (document 01, "The text the program tally reads": "Forms"). In a template, # is the place
--- of a decimal and % that of a register.
-use Prim.Native.Nat.{ℕ, _^_, _<_}
+-- The forms of a line, as written, and their text (document 01, "The text the program tally reads": "Forms").
+use Prim.Native.Nat.{ℕ, _^_, _<_, _≤_}
+use mathlib.Core.Path.{_≡_}
 use mathlib.Core.List.{List, [], _∷_, _++_}
-use Rattle.text.specs.Word.{bytes}
+use lib.ListN.{length}
 use Rattle.text.specs.Template.{filled}
 use Rattle.metering.specs.declared.Sign.{Sign}
 use Rattle.metering.specs.declared.Sign.the-variants.{Plus, Minus}
@@ -15,6 +15,7 @@ use Rattle.emissions.specs.declared.Supply.{Supply}
 use Rattle.emissions.specs.declared.Supply.the-variants.{Combined, GridDefault, Captive, CaptiveDefault, Either}
 use Rattle.emissions.specs.declared.Loss.{Loss}
 use Rattle.emissions.specs.declared.Loss.the-variants.{Nothing, Measured, Default20, Default3}
+use Rattle.forms.specs.Templates.{gridOpening, plantOpening, sourceOpening, dropSourceOpening, dropPlantOpening, reportOpening, closing, thermalWord, hydroWord, projectWord, leakageWord, baselineWord, combinedPart, gridDefaultPart, captivePart, captiveDefaultPart, eitherPart, lossPart, default20Part, default3Part, nonePart, wholePlusPart, wholeMinusPart, singlePlusPart, singleMinusPart, fuelPart}
 
 -- "meters (whole sign first last), (single sign first last)"; a register is its 32 bits.
 pub data MeterForm : Type 0 where
@@ -33,38 +34,38 @@ pub data Form : Type 0 where
 -- ---- the text of the parts; "one space between parts": a part that follows another begins with the space
 
 abbrev pub kindText : GridKind → List ℕ
-kindText Thermal = bytes "thermal"
-kindText Hydro = bytes "hydro"
+kindText Thermal = thermalWord
+kindText Hydro = hydroWord
 
 -- "Sides project, leakage, baseline".
 abbrev pub sideText : Side → List ℕ
-sideText Project = bytes "project"
-sideText Leakage = bytes "leakage"
-sideText Baseline = bytes "baseline"
+sideText Project = projectWord
+sideText Leakage = leakageWord
+sideText Baseline = baselineWord
 
 -- "supplies (combined), (griddefault), (captive S), (captivedefault), (either S)".
 abbrev pub supplyText : Supply → List ℕ
-supplyText Combined = bytes " (combined)"
-supplyText GridDefault = bytes " (griddefault)"
-supplyText (Captive S) = filled (bytes " (captive #)") (S ∷ [])
-supplyText CaptiveDefault = bytes " (captivedefault)"
-supplyText (Either S) = filled (bytes " (either #)") (S ∷ [])
+supplyText Combined = combinedPart
+supplyText GridDefault = gridDefaultPart
+supplyText (Captive S) = filled captivePart (S ∷ [])
+supplyText CaptiveDefault = captiveDefaultPart
+supplyText (Either S) = filled eitherPart (S ∷ [])
 
 -- "losses (loss T), (default20), (default3), (none)".
 abbrev pub lossText : Loss → List ℕ
-lossText (Measured T) = filled (bytes " (loss #)") (T ∷ [])
-lossText Default20 = bytes " (default20)"
-lossText Default3 = bytes " (default3)"
-lossText Nothing = bytes " (none)"
+lossText (Measured T) = filled lossPart (T ∷ [])
+lossText Default20 = default20Part
+lossText Default3 = default3Part
+lossText Nothing = nonePart
 
 abbrev pub meterText : MeterForm → List ℕ
-meterText (whole Plus first last) = filled (bytes " (whole + # #)") (first ∷ last ∷ [])
-meterText (whole Minus first last) = filled (bytes " (whole - # #)") (first ∷ last ∷ [])
-meterText (single Plus first last) = filled (bytes " (single + % %)") (first ∷ last ∷ [])
-meterText (single Minus first last) = filled (bytes " (single - % %)") (first ∷ last ∷ [])
+meterText (whole Plus first last) = filled wholePlusPart (first ∷ last ∷ [])
+meterText (whole Minus first last) = filled wholeMinusPart (first ∷ last ∷ [])
+meterText (single Plus first last) = filled singlePlusPart (first ∷ last ∷ [])
+meterText (single Minus first last) = filled singleMinusPart (first ∷ last ∷ [])
 
 abbrev pub fuelText : FuelLine → List ℕ
-fuelText l = filled (bytes " (fuel # # #)") (l .quantity ∷ l .ncv ∷ l .factor ∷ [])
+fuelText l = filled fuelPart (l .quantity ∷ l .ncv ∷ l .factor ∷ [])
 
 -- "Any count of fuel lines or meters, none included, is a form".
 unfoldable pub allText : {A : Type 0} → (A → List ℕ) → List A → List ℕ
@@ -74,16 +75,16 @@ allText text (a ∷ rest) = text a ++ allText text rest
 -- ---- the text of a form: what it opens with, and the bracket that closes it
 
 unfoldable pub openText : Form → List ℕ
-openText (grid F kind) = filled (bytes "(grid # ") (F ∷ []) ++ kindText kind
-openText (plant N S G lines) = filled (bytes "(plant # # #") (N ∷ S ∷ G ∷ []) ++ allText fuelText lines
+openText (grid F kind) = filled gridOpening (F ∷ []) ++ kindText kind
+openText (plant N S G lines) = filled plantOpening (N ∷ S ∷ G ∷ []) ++ allText fuelText lines
 openText (source N side supply loss meters) =
-    filled (bytes "(source # ") (N ∷ []) ++ (sideText side ++ (supplyText supply ++ (lossText loss ++ allText meterText meters)))
-openText (dropSource N) = filled (bytes "(drop source #") (N ∷ [])
-openText (dropPlant N) = filled (bytes "(drop plant #") (N ∷ [])
-openText report = bytes "(report"
+    filled sourceOpening (N ∷ []) ++ (sideText side ++ (supplyText supply ++ (lossText loss ++ allText meterText meters)))
+openText (dropSource N) = filled dropSourceOpening (N ∷ [])
+openText (dropPlant N) = filled dropPlantOpening (N ∷ [])
+openText report = reportOpening
 
 abbrev pub formText : Form → List ℕ
-formText f = openText f ++ bytes ")"
+formText f = openText f ++ closing
 
 -- ---- the numbers that can be written: decimals of at most 18 digits, registers of 32 bits
 
@@ -121,3 +122,14 @@ Writable (source N side supply loss meters) = Decimal N × SupplyWritable supply
 Writable (dropSource N) = Decimal N
 Writable (dropPlant N) = Decimal N
 Writable report = Unit {0}
+
+-- ---- a line that is a form: "14 not one of the forms below, .. or a line above 256 bytes without its LF"
+
+abbrev pub lineLimit : ℕ
+lineLimit = 256
+
+-- The line is the text of this form, with numbers that can be written, and not too long.
+pub record LineStands (line : List ℕ) (f : Form) : Type 0 where
+  pub text : line ≡ formText f
+  pub writable : Writable f
+  pub short : length line ≤ lineLimit

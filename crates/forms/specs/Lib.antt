@@ -1,3 +1,4 @@
+pub mod Templates
 pub mod Form
 pub mod Reading
 pub mod Calls

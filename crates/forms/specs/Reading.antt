@@ -1,7 +1,6 @@
 -- The form that a line is read as. `form-is-text` shows that a line is read as a form exactly when it is that form's text, so that only
 -- the text of the forms need be believed.
 use Prim.Native.Nat.{ℕ, zero, suc}
-use Prim.Native.String.{String}
 use mathlib.Core.Bool.{Bool, false, cond}
 use mathlib.Core.List.{List, [], _∷_}
 use mathlib.Core.Option.{Option, none, some}
@@ -20,7 +19,8 @@ use Rattle.emissions.specs.declared.Supply.{Supply}
 use Rattle.emissions.specs.declared.Supply.the-variants.{Combined, GridDefault, Captive, CaptiveDefault, Either}
 use Rattle.emissions.specs.declared.Loss.{Loss}
 use Rattle.emissions.specs.declared.Loss.the-variants.{Nothing, Measured, Default20, Default3}
-use Rattle.forms.specs.Form.{MeterForm, whole, single, Form, grid, plant, source, dropSource, dropPlant, report}
+use Rattle.forms.specs.Templates.{gridOpening, plantOpening, sourceOpening, dropSourceOpening, dropPlantOpening, reportOpening, thermalWord, hydroWord, projectWord, leakageWord, baselineWord, combinedPart, gridDefaultPart, captivePart, captiveDefaultPart, eitherPart, lossPart, default20Part, default3Part, nonePart, wholePlusPart, wholeMinusPart, singlePlusPart, singleMinusPart, fuelPart}
+use Rattle.forms.specs.Form.{lineLimit, MeterForm, whole, single, Form, grid, plant, source, dropSource, dropPlant, report}
 
 -- ---- one of several templates, and any count of parts
 
@@ -29,8 +29,8 @@ pub record Row (A : Type 0) : Type 0 where
   pub template : List ℕ
   pub value : Numbers → A
 
-abbrev pub row : {A : Type 0} → String → (Numbers → A) → Row A
-row text value = record { template = bytes text; value = value }
+abbrev pub row : {A : Type 0} → List ℕ → (Numbers → A) → Row A
+row template value = record { template = template; value = value }
 
 abbrev pub orElse : {A : Type 0} → Option A → Option A → Option A
 orElse none b = b
@@ -56,56 +56,56 @@ manyOf rows t = manyWithin rows (length t) t
 -- ---- the parts
 
 unfoldable pub kinds : List (Row GridKind)
-kinds = row "thermal" (λ n. Thermal) ∷ row "hydro" (λ n. Hydro) ∷ []
+kinds = row thermalWord (λ n. Thermal) ∷ row hydroWord (λ n. Hydro) ∷ []
 
 unfoldable pub sides : List (Row Side)
-sides = row "project" (λ n. Project) ∷ row "leakage" (λ n. Leakage) ∷ row "baseline" (λ n. Baseline) ∷ []
+sides = row projectWord (λ n. Project) ∷ row leakageWord (λ n. Leakage) ∷ row baselineWord (λ n. Baseline) ∷ []
 
 unfoldable pub supplies : List (Row Supply)
 supplies =
-    row " (combined)" (λ n. Combined)
-    ∷ row " (griddefault)" (λ n. GridDefault)
-    ∷ row " (captive #)" (λ n. Captive (n .first))
-    ∷ row " (captivedefault)" (λ n. CaptiveDefault)
-    ∷ row " (either #)" (λ n. Either (n .first))
+    row combinedPart (λ n. Combined)
+    ∷ row gridDefaultPart (λ n. GridDefault)
+    ∷ row captivePart (λ n. Captive (n .first))
+    ∷ row captiveDefaultPart (λ n. CaptiveDefault)
+    ∷ row eitherPart (λ n. Either (n .first))
     ∷ []
 
 unfoldable pub losses : List (Row Loss)
 losses =
-    row " (loss #)" (λ n. Measured (n .first))
-    ∷ row " (default20)" (λ n. Default20)
-    ∷ row " (default3)" (λ n. Default3)
-    ∷ row " (none)" (λ n. Nothing)
+    row lossPart (λ n. Measured (n .first))
+    ∷ row default20Part (λ n. Default20)
+    ∷ row default3Part (λ n. Default3)
+    ∷ row nonePart (λ n. Nothing)
     ∷ []
 
 unfoldable pub meters : List (Row MeterForm)
 meters =
-    row " (whole + # #)" (λ n. whole Plus (n .first) (n .second))
-    ∷ row " (whole - # #)" (λ n. whole Minus (n .first) (n .second))
-    ∷ row " (single + % %)" (λ n. single Plus (n .first) (n .second))
-    ∷ row " (single - % %)" (λ n. single Minus (n .first) (n .second))
+    row wholePlusPart (λ n. whole Plus (n .first) (n .second))
+    ∷ row wholeMinusPart (λ n. whole Minus (n .first) (n .second))
+    ∷ row singlePlusPart (λ n. single Plus (n .first) (n .second))
+    ∷ row singleMinusPart (λ n. single Minus (n .first) (n .second))
     ∷ []
 
 unfoldable pub fuels : List (Row FuelLine)
-fuels = row " (fuel # # #)" (λ n. record { quantity = n .first; ncv = n .second; factor = n .third }) ∷ []
+fuels = row fuelPart (λ n. record { quantity = n .first; ncv = n .second; factor = n .third }) ∷ []
 
 -- ---- what a form opens with
 
 unfoldable pub gridIn : List ℕ → Option (Read Form)
-gridIn t = onRead (templateIn (bytes "(grid # ") t) (λ n t1. mapRead (grid (n .first)) (oneOf kinds t1))
+gridIn t = onRead (templateIn gridOpening t) (λ n t1. mapRead (grid (n .first)) (oneOf kinds t1))
 
 abbrev pub withLines : Numbers → Read (List FuelLine) → Read Form
 withLines n r = record { value = plant (n .first) (n .second) (n .third) (r .value); rest = r .rest }
 
 unfoldable pub plantIn : List ℕ → Option (Read Form)
-plantIn t = onRead (templateIn (bytes "(plant # # #") t) (λ n t1. some (withLines n (manyOf fuels t1)))
+plantIn t = onRead (templateIn plantOpening t) (λ n t1. some (withLines n (manyOf fuels t1)))
 
 abbrev pub withMeters : ℕ → Side → Supply → Loss → Read (List MeterForm) → Read Form
 withMeters N side supply loss r = record { value = source N side supply loss (r .value); rest = r .rest }
 
 unfoldable pub sourceIn : List ℕ → Option (Read Form)
 sourceIn t =
-    onRead (templateIn (bytes "(source # ") t) (λ n t1.
+    onRead (templateIn sourceOpening t) (λ n t1.
     onRead (oneOf sides t1) (λ side t2.
     onRead (oneOf supplies t2) (λ supply t3.
     onRead (oneOf losses t3) (λ loss t4.
@@ -113,9 +113,9 @@ sourceIn t =
 
 unfoldable pub others : List (Row Form)
 others =
-    row "(drop source #" (λ n. dropSource (n .first))
-    ∷ row "(drop plant #" (λ n. dropPlant (n .first))
-    ∷ row "(report" (λ n. report)
+    row dropSourceOpening (λ n. dropSource (n .first))
+    ∷ row dropPlantOpening (λ n. dropPlant (n .first))
+    ∷ row reportOpening (λ n. report)
     ∷ []
 
 unfoldable pub openingIn : List ℕ → Option (Read Form)
@@ -134,4 +134,4 @@ formIn t = onRead (openingIn t) (λ f rest. cond (isClosing rest) (some f) none)
 
 -- "14 .. a line above 256 bytes without its LF".
 unfoldable pub lineForm : List ℕ → Option Form
-lineForm line = cond (leb (length line) 256) (formIn line) none
+lineForm line = cond (leb (length line) lineLimit) (formIn line) none

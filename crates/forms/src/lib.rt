@@ -66,6 +66,11 @@ pub struct Line {
     pub next: usize,
 }
 
+impl Line {
+    // The most bytes of a line, without its LF.
+    pub const LIMIT: usize = 256;
+}
+
 // A line of a kind whose other parts are empty.
 fn plain_line(kind: Kind, number: u8, next: usize) -> Line
     ensures { λ r. ⌜ r ≡ plainLine kind number next ⌝ }
@@ -82,14 +87,14 @@ fn plain_line(kind: Kind, number: u8, next: usize) -> Line
         plant: Plant {
             site: 0,
             generation: 0,
-            lines: [fuel; 4],
+            lines: [fuel; Plant::LINE_PLACES],
             count: 0,
         },
         source: SourceEntry {
             side: Side::Project,
             supply: Supply::Combined,
             loss: Loss::Nothing,
-            meters: [meter; 4],
+            meters: [meter; Meter::PLACES],
             count: 0,
         },
         next,

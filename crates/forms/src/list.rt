@@ -15,16 +15,17 @@ use crate::part::read_fuel;
 use crate::part::read_meter;
 use fuel::FuelLine;
 use metering::Meter;
+use records::Plant;
 
 // The parts of an entry: the first four, how many there are, and the place after them.
 pub struct Fuels {
-    pub lines: [FuelLine; 4],
+    pub lines: [FuelLine; Plant::LINE_PLACES],
     pub count: usize,
     pub next: usize,
 }
 
 pub struct Meters {
-    pub meters: [Meter; 4],
+    pub meters: [Meter; Meter::PLACES],
     pub count: usize,
     pub next: usize,
 }
@@ -38,7 +39,7 @@ fn with_fuel(fuels: Fuels, fuel: FuelLine, next: usize) -> Fuels
 {
     let count = fuels.count;
     let mut more = fuels;
-    if count < 4 {
+    if count < Plant::LINE_PLACES {
         more.lines[count] = fuel;
     }
     more.count = count + 1;
@@ -54,7 +55,7 @@ pub fn read_fuels(line: &[u8], at: usize) -> Fuels
 {
     let none = FuelLine::empty();
     let mut fuels = Fuels {
-        lines: [none; 4],
+        lines: [none; Plant::LINE_PLACES],
         count: 0,
         next: at,
     };
@@ -79,7 +80,7 @@ fn with_meter(meters: Meters, meter: Meter, next: usize) -> Meters
 {
     let count = meters.count;
     let mut more = meters;
-    if count < 4 {
+    if count < Meter::PLACES {
         more.meters[count] = meter;
     }
     more.count = count + 1;
@@ -95,7 +96,7 @@ pub fn read_meters(line: &[u8], at: usize) -> Meters
 {
     let none = Meter::empty();
     let mut meters = Meters {
-        meters: [none; 4],
+        meters: [none; Meter::PLACES],
         count: 0,
         next: at,
     };

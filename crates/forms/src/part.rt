@@ -5,7 +5,7 @@ ghost use lib.ListN.{drop};
 ghost use Rattle.text.specs.Template.{mapRead};
 ghost use Rattle.forms.specs.Form.{whole, single};
 ghost use Rattle.forms.specs.Reading.{oneOf, kinds, sides, supplies, losses, meters, fuels};
-ghost use Rattle.forms.specs.Calls.{meterOf, atMost, wordField, fittedSupply, fittedLoss, fittedLine};
+ghost use Rattle.forms.specs.Calls.{meterOf, atMost, byteField, wordField, fittedSupply, fittedLoss, fittedLine};
 ghost use Rattle.forms.specs.Steps.{
   kindMeaning,
   sideMeaning,
@@ -57,6 +57,13 @@ pub enum FuelRead {
     Found(FuelLine, usize),
 }
 
+// The largest numbers of the fields that an entry has.
+const LARGEST_BYTE: u64 = u8::MAX as u64;
+
+const LARGEST_LOSS: u64 = u16::MAX as u64;
+
+const LARGEST_WORD: u64 = u32::MAX as u64;
+
 // A number, or the largest of its field where it is larger. That is above every limit, so that an entry
 // refuses it alike.
 fn at_most(number: u64, limit: u64) -> u64
@@ -69,15 +76,15 @@ fn at_most(number: u64, limit: u64) -> u64
 }
 
 pub fn byte_field(number: u64) -> u8
-    ensures { λ r. ⌜ r ≡ atMost 255 number ⌝ }
+    ensures { λ r. ⌜ r ≡ byteField number ⌝ }
 {
-    at_most(number, 255) as u8
+    at_most(number, LARGEST_BYTE) as u8
 }
 
 pub fn word_field(number: u64) -> u32
-    ensures { λ r. ⌜ r ≡ atMost 4294967295 number ⌝ }
+    ensures { λ r. ⌜ r ≡ wordField number ⌝ }
 {
-    at_most(number, 4_294_967_295) as u32
+    at_most(number, LARGEST_WORD) as u32
 }
 
 pub fn read_kind(line: &[u8], at: usize) -> KindRead
@@ -132,7 +139,10 @@ pub fn read_loss(line: &[u8], at: usize) -> LossRead
     ensures { λ r. ⌜ lossMeaning (now (line .entry)) r ≡ mapRead fittedLoss (oneOf losses (drop at (now (line .entry)))) ⌝ }
 {
     if let Match::Match(numbers, next) = text::read_template(line, at, b" (loss #)") {
-        return LossRead::Found(Loss::Measured(at_most(numbers.first, 65_535) as u16), next);
+        return LossRead::Found(
+            Loss::Measured(at_most(numbers.first, LARGEST_LOSS) as u16),
+            next,
+        );
     }
     if let Match::Match(_, next) = text::read_template(line, at, b" (default20)") {
         return LossRead::Found(Loss::Default20, next);

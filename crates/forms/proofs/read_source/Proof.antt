@@ -5,9 +5,9 @@ use mathlib.Core.List.{List}
 use Prim.Native.Nat.{ℕ}
 use lib.ListN.{drop}
 use denote.Ref.{now}
-use Rattle.text.specs.Word.{bytes}
 use Rattle.text.specs.Template.{templateIn}
 use Rattle.text.proofs.Templates.{template-read}
+use Rattle.forms.specs.Templates.{sourceOpening}
 use Rattle.forms.specs.Reading.{oneOf, sides, supplies, losses, sourceIn}
 use Rattle.forms.specs.Calls.{callOf, fittedSupply, fittedLoss, fitted, plainLine, lineOf}
 use Rattle.forms.specs.Steps.{found, sideMeaning, supplyMeaning, lossMeaning}
@@ -40,7 +40,7 @@ returns c =
     nothing-read s (sourceIn s) (c .no-form .ensures) (rw (template-read _ s 0 (c .before .before .before .read-template .ensures) (c .before .enum-told .given .1)))
 
 number-read : (p : tie.After-numbers) → let n = p .numbers .given .0 in
-    templateIn (bytes "(source # ") (text (p .before .before .before .before .before)) ≡ found (text (p .before .before .before .before .before)) (n .0) (n .1 .0)
+    templateIn sourceOpening (text (p .before .before .before .before .before)) ≡ found (text (p .before .before .before .before .before)) (n .0) (n .1 .0)
 number-read p = template-read _ (text (p .before .before .before .before .before)) 0 (p .before .before .read-template .ensures) (p .numbers .given .1)
 
 read-side-requires : tie.Need-read-side-requires

@@ -1,4 +1,4 @@
--- `forms::read_fuels` meets its contract: what is left gives what the whole gives. Assumes nothing.
+-- `forms::list::read_fuels` meets its contract: what is left gives what the whole gives. Assumes nothing.
 use borrow.Author.Needs.{needs}
 use mathlib.Core.Path.{_≡_, refl, sym, ap, _∙_}
 use Prim.Native.Nat.{ℕ, _+_, _-_, _≤_}

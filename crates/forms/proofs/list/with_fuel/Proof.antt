@@ -1,4 +1,4 @@
--- `forms::with_fuel` meets its contract. Assumes nothing.
+-- `forms::list::with_fuel` meets its contract. Assumes nothing.
 use borrow.Author.Needs.{needs}
 use borrow.Author.Tests.{lt-ltb, le-ltb}
 use mathlib.Core.Path.{refl}

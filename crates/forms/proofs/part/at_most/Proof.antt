@@ -1,4 +1,4 @@
--- `forms::at_most` meets its contract. Assumes nothing.
+-- `forms::part::at_most` meets its contract. Assumes nothing.
 use mathlib.Core.Path.{sym}
 use Rattle.forms.proofs.Rows.{at-most-within, at-most-over}
 use Rattle.forms.proofs.part.at_most.Statement.{statement}

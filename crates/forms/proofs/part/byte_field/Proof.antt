@@ -1,4 +1,4 @@
--- `forms::byte_field` meets its contract. Assumes nothing.
+-- `forms::part::byte_field` meets its contract. Assumes nothing.
 use borrow.Author.Needs.{needs}
 use native.Mathlib.Omega.{arith}
 use Rattle.forms.proofs.Rows.{at-most-fits}

@@ -1,4 +1,4 @@
--- `forms::read_fuel` meets its contract. Assumes nothing.
+-- `forms::part::read_fuel` meets its contract. Assumes nothing.
 use borrow.Author.Needs.{needs}
 use mathlib.Core.Path.{sym, ap, _∙_}
 use Rattle.text.specs.Template.{mapRead}

@@ -1,4 +1,4 @@
--- `forms::read_kind` meets its contract: what is left of the table after the rows that are not read reads what the whole reads. Assumes nothing.
+-- `forms::part::read_kind` meets its contract: what is left of the table after the rows that are not read reads what the whole reads. Assumes nothing.
 use borrow.Author.Needs.{needs}
 use mathlib.Core.Path.{sym, _∙_}
 use mathlib.Core.List.{List}

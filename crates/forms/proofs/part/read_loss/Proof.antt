@@ -1,4 +1,4 @@
--- `forms::read_loss` meets its contract: what is left of the table after the rows that are not read reads what the whole reads. Assumes nothing.
+-- `forms::part::read_loss` meets its contract: what is left of the table after the rows that are not read reads what the whole reads. Assumes nothing.
 use borrow.Author.Needs.{needs}
 use mathlib.Core.Path.{sym, ap, _∙_}
 use mathlib.Core.List.{List}

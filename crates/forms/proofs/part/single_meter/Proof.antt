@@ -1,4 +1,4 @@
--- `forms::single_meter` meets its contract. Assumes nothing.
+-- `forms::part::single_meter` meets its contract. Assumes nothing.
 use borrow.Author.Needs.{needs}
 use Rattle.forms.proofs.part.single_meter.Statement.{statement}
 use Rattle.forms.proofs.part.single_meter.Tie as tie

@@ -1,4 +1,4 @@
--- `forms::word_field` meets its contract. Assumes nothing.
+-- `forms::part::word_field` meets its contract. Assumes nothing.
 use borrow.Author.Needs.{needs}
 use native.Mathlib.Omega.{arith}
 use Rattle.forms.proofs.Rows.{at-most-fits}
