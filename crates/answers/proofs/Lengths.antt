@@ -22,7 +22,7 @@ use Rattle.report.specs.Report.{SideReport, Report, Reply, ok, refusedWith, ref
 use Rattle.ledger.specs.Standing as call
 use Rattle.ledger.specs.Operations.{newLedger, reply}
 use Rattle.ledger.specs.declared.Ledger.{Ledger}
-use Rattle.ledger.proofs.Bounds.{SmallSide, SmallReport, Small, Plain, reply-plain, reply-small}
+use Rattle.ledger.proofs.Bounds.{SideWithin, ReportWithin, ReplyWithin, Plain, reply-plain, reply-within}
 use Rattle.forms.specs.Form.{Form, grid, plant, source, dropSource, dropPlant, report, openText}
 use Rattle.forms.specs.Reading.{lineForm}
 use Rattle.forms.specs.Calls.{callOf, lineCall}
@@ -39,7 +39,7 @@ two-digits : (n : ℕ) → n < 100 → length (decimal n) ≤ 2
 two-digits n h = length-at-most 1 n (omega arith)
 
 -- The name of a side, 10 digits of tonnes, 16 of grams, 2 of sources, two spaces and the LF.
-side-length : (name : List ℕ) (s : SideReport) (more : List (List ℕ)) → SmallSide s
+side-length : (name : List ℕ) (s : SideReport) (more : List (List ℕ)) → SideWithin s
     → length (joinedText (sideParts name s ++ more)) ≤ length name + 31 + length (joinedText more)
 side-length name s more h =
     simp joined-more
@@ -57,7 +57,7 @@ signed-length (negsuc n) h = omega (arith, length-at-most 9 (suc n) (omega arith
 
 -- ---- an answer
 
-report-length : (r : Report) → SmallReport r → length (replyText (reported r)) ≤ 140
+report-length : (r : Report) → ReportWithin r → length (replyText (reported r)) ≤ 140
 unfolding replyParts reportParts
 report-length r h =
     let last = bytes "reduction " ∷ signedDecimal (r .reduction) ∷ bytes "\n" ∷ [] in
@@ -79,7 +79,7 @@ longest (refusedAt n k) = 21
 longest (reported r) = 140
 longest damaged = 8
 
-pub reply-length : (r : Reply) → Small r → length (replyText r) ≤ longest r
+pub reply-length : (r : Reply) → ReplyWithin r → length (replyText r) ≤ longest r
 unfolding replyParts
 reply-length ok h = simp (joined-more, joined-none) (omega arith)
 reply-length (refusedWith n) h = simp (joined-more, joined-none) (omega (arith, two-digits n h))
@@ -122,7 +122,7 @@ module _ (l : Ledger) (line : List ℕ) (k : ℕ) (long : length line ≤ k) (ab
   form-fits : (f : Form) → lineForm line ≡ some f → length (replyText (reply l (callOf f))) ≤ 18 * k
   form-fits f e =
       let r = reply l (callOf f) in
-      let n = reply-length r (reply-small l (callOf f)) in
+      let n = reply-length r (reply-within l (callOf f)) in
       elim (reply-plain l (callOf f)) [
         | inl c ↦ omega (arith, longest-any r, report-line line (e ∙ ap some (only-report f c)))
         | inr p ↦ omega (arith, longest-plain r p)

@@ -51,13 +51,22 @@ repliesText [] = []
 repliesText (r ∷ rs) = replyText r ++ repliesText rs
 
 -- "Input above 65,536 bytes prints only `refused 14`."
+abbrev pub inputLimit : ℕ
+inputLimit = 65536
+
 unfoldable pub output : List ℕ → List ℕ
-output input = cond (leb (length input) 65536) (repliesText (inputReplies input)) (bytes "refused 14\n")
+output input = cond (leb (length input) inputLimit) (repliesText (inputReplies input)) (bytes "refused 14\n")
 
 -- ---- a lent buffer: one that might be too short is refused, before anything is written
 
+abbrev pub bytesForEach : ℕ
+bytesForEach = 18
+
+abbrev pub bytesOfRefusal : ℕ
+bytesOfRefusal = 11
+
 abbrev pub needed : List ℕ → ℕ
-needed input = cond (leb (length input) 65536) (18 * length input) 11
+needed input = cond (leb (length input) inputLimit) (bytesForEach * length input) bytesOfRefusal
 
 abbrev pub written : List ℕ → ℕ → Written
 written input room = cond (leb (needed input) room) (Bytes (length (output input))) TooShort

@@ -6,7 +6,7 @@ ghost use mathlib.Core.Path.{_≡_};
 ghost use Prim.Native.Nat.{_+_, _*_, _≤_};
 ghost use lib.ListN.{length, drop};
 ghost use Rattle.text.specs.Buffer.{putAt};
-ghost use Rattle.answers.specs.Input.{output, written, bufferAfter};
+ghost use Rattle.answers.specs.Input.{inputLimit, bytesForEach, output, written, bufferAfter};
 ghost use Rattle.answers.specs.Steps.{firstLine};
 use ledger::Ledger;
 
@@ -14,6 +14,16 @@ use ledger::Ledger;
 pub enum Written {
     TooShort,
     Bytes(usize),
+}
+
+impl Written {
+    // The most bytes of an input.
+    pub const INPUT_LIMIT: usize = 65_536;
+
+    // The bytes that a buffer needs for each byte of an input, and for the refusal of a longer one.
+    pub const BYTES_FOR_EACH: usize = 18;
+
+    pub const BYTES_OF_REFUSAL: usize = 11;
 }
 
 // Where the line that begins at a place ends: at its LF, or at the end.
@@ -33,8 +43,8 @@ fn line_end(input: &[u8], at: usize) -> usize
 
 // Answers the lines of an input one after the other.
 fn answer_lines(input: &[u8], buffer: &mut [u8]) -> usize
-    requires { ⌜ length (now input) ≤ 65536 ⌝ }
-    requires { ⌜ 18 * length (now input) ≤ length (now buffer) ⌝ }
+    requires { ⌜ length (now input) ≤ inputLimit ⌝ }
+    requires { ⌜ bytesForEach * length (now input) ≤ length (now buffer) ⌝ }
     ensures { λ r. ⌜ r ≡ length (output (now (input .entry))) ⌝ }
     ensures { λ r. ⌜ now (buffer .exit) ≡ putAt (now (buffer .entry)) 0 (output (now (input .entry))) ⌝ }
 {
@@ -58,13 +68,13 @@ pub fn answer_input(input: &[u8], buffer: &mut [u8]) -> Written
     ensures { λ r. ⌜ r ≡ written (now (input .entry)) (length (now (buffer .entry))) ⌝ }
     ensures { λ r. ⌜ now (buffer .exit) ≡ bufferAfter (now (buffer .entry)) (now (input .entry)) ⌝ }
 {
-    if input.len() > 65_536 {
-        if buffer.len() < 11 {
+    if input.len() > Written::INPUT_LIMIT {
+        if buffer.len() < Written::BYTES_OF_REFUSAL {
             return Written::TooShort;
         }
         return Written::Bytes(text::put_word(buffer, 0, b"refused 14\n"));
     }
-    if buffer.len() < 18 * input.len() {
+    if buffer.len() < Written::BYTES_FOR_EACH * input.len() {
         return Written::TooShort;
     }
     Written::Bytes(answer_lines(input, buffer))

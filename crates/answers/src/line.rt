@@ -12,8 +12,8 @@ ghost use Rattle.answers.specs.Answers.{replyMeaning, sideParts, reportP
 ghost use Rattle.answers.specs.Input.{lineStep, lineReply};
 use forms::Kind;
 use forms::Line;
-use ledger::Entered;
 use ledger::Ledger;
+use ledger::LedgerKept;
 use records::Answer;
 use report::Report;
 use report::Reported;
@@ -54,12 +54,13 @@ fn report_reply(reported: Reported) -> Reply
     }
 }
 
-fn entered(entered: Entered) -> Answered
-    ensures ledger { λ r. ⌜ r .ledger ≡ entered .ledger ⌝ }
-    ensures reply { λ r. ⌜ replyMeaning (r .reply) ≡ answerMeaning (entered .answer) ⌝ }
+// The answer to an entry or a drop, which left this ledger.
+fn changed(kept: LedgerKept) -> Answered
+    ensures ledger { λ r. ⌜ r .ledger ≡ kept .ledger ⌝ }
+    ensures reply { λ r. ⌜ replyMeaning (r .reply) ≡ answerMeaning (kept .answer) ⌝ }
 {
-    let ledger = entered.ledger;
-    let answer = entered.answer;
+    let ledger = kept.ledger;
+    let answer = kept.answer;
     let reply = entry_reply(answer);
     Answered { ledger, reply }
 }
@@ -90,11 +91,11 @@ fn perform(ledger: Ledger, line: Line) -> Answered
     let kind = line.kind;
     match kind {
         Kind::NoForm => refused_14(ledger),
-        Kind::GridForm => entered(ledger.enter_grid(line.grid)),
-        Kind::PlantForm => entered(ledger.enter_plant(line.number, line.plant)),
-        Kind::SourceForm => entered(ledger.enter_source(line.number, line.source)),
-        Kind::DropPlantForm => entered(ledger.drop_plant(line.number)),
-        Kind::DropSourceForm => entered(ledger.drop_source(line.number)),
+        Kind::GridForm => changed(ledger.enter_grid(line.grid)),
+        Kind::PlantForm => changed(ledger.enter_plant(line.number, line.plant)),
+        Kind::SourceForm => changed(ledger.enter_source(line.number, line.source)),
+        Kind::DropPlantForm => changed(ledger.drop_plant(line.number)),
+        Kind::DropSourceForm => changed(ledger.drop_source(line.number)),
         Kind::ReportForm => reported(ledger),
     }
 }
@@ -104,7 +105,7 @@ pub fn answer_line(ledger: Ledger, line: &[u8]) -> Answered
     ensures ledger { λ r. ⌜ r .ledger ≡ lineStep ledger (lineCall (now (line .entry))) ⌝ }
     ensures reply { λ r. ⌜ replyMeaning (r .reply) ≡ lineReply ledger (lineCall (now (line .entry))) ⌝ }
 {
-    if line.len() > 256 {
+    if line.len() > Line::LIMIT {
         return refused_14(ledger);
     }
     perform(ledger, forms::read_line(line))

@@ -23,6 +23,8 @@ pub enum Milligrams {
 impl FuelLine {
     pub const QUANTITY_LIMIT: u32 = 100_000_000;
 
+    pub const NCV_LEAST: u32 = 1;
+
     pub const NCV_LIMIT: u32 = 150_000;
 
     pub const FACTOR_LIMIT: u32 = 200_000;
@@ -45,7 +47,7 @@ impl FuelLine {
         if self.quantity > FuelLine::QUANTITY_LIMIT {
             return false;
         }
-        if self.ncv < 1 {
+        if self.ncv < FuelLine::NCV_LEAST {
             return false;
         }
         if self.ncv > FuelLine::NCV_LIMIT {

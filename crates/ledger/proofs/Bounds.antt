@@ -34,15 +34,15 @@ use Rattle.emissions.specs.declared.Supply.the-variants.{Combined, GridDefault,
 use Rattle.emissions.specs.declared.Loss.{Loss}
 use Rattle.emissions.specs.declared.Loss.the-variants.{Nothing, Measured, Default20, Default3}
 use Rattle.emissions.specs.declared.Consumption.{Consumption}
-use Rattle.records.specs.Judging.{gridJudged, onRead, onEnergy, kept, sourceJudged, isThere, dropJudged, linesOf, allWithinLimits, plantJudged, siteFits, lossFits, lossMatches}
-use Rattle.report.specs.Report.{Books, Numbered, listed, standing, sourcesOf, plantsOf, siteOf, sourceFigure, Figured, Figures, declined, figured, withFigure, joined, figuresFrom, ofSide, SideReport, sideFits, sideReport, reduction, Report, reportFrom, allFit, Reply, ok, refusedWith, refusedAt, reported, damaged, replyFrom, reportOf, checkedReportOf, acknowledged, intact}
+use Rattle.records.specs.Judging.{gridJudged, onRead, onEnergy, kept, sourceJudged, isThere, dropJudged, linesOf, allWithinLimits, plantJudged, supplyWithinLimits, lossWithinLimits, lossMatches}
+use Rattle.report.specs.Report.{ReportInput, Numbered, prependStanding, standing, sourcesOf, plantsOf, siteOf, sourceFigure, Figured, Figures, declined, figured, withFigure, prepended, figuresFrom, ofSide, SideReport, sideFits, sideReport, reduction, Report, reportFrom, allFit, Reply, ok, refusedWith, refusedAt, reported, damaged, replyFrom, reportOf, checkedReportOf, acknowledged, intact}
 use Rattle.ledger.specs.Standing.{Call, enterGrid, enterPlant, enterSource, dropPlant, dropSource, report, answer}
 use Rattle.ledger.specs.Operations.{recorded, reply}
 use Rattle.records.specs.declared.Plant.{Plant}
 use Rattle.records.specs.declared.SourceEntry.{SourceEntry}
 use Rattle.records.specs.declared.Source.{Source}
 use Rattle.ledger.specs.declared.Ledger.{Ledger}
-use Rattle.report.proofs.Lists.{numbered, those-length}
+use Rattle.report.proofs.Lists.{numbered, selected-length}
 use Rattle.ledger.proofs.Sides.{reduction-differ}
 
 -- ---- the numbers of the refusals
@@ -120,8 +120,8 @@ settled-low (energyJudged.Accepted E) f h k = k E
 source-low : (n : ℕ) (e : SourceEntry) → Low (sourceJudged n e)
 unfolding sourceJudged
 source-low n e =
-    unless-low 1 (leb n 31 && siteFits (e .supply)) _ (omega arith)
-    (unless-low 2 (lossFits (e .loss)) _ (omega arith)
+    unless-low 1 (leb n 31 && supplyWithinLimits (e .supply)) _ (omega arith)
+    (unless-low 2 (lossWithinLimits (e .loss)) _ (omega arith)
     (read-low (judgedMeters (direction (e .side)) (e .count) (e .meters)) _ (meters-low _ _ _) (λ x y.
     unless-low 5 (lossMatches (e .supply) (e .loss)) _ (omega arith)
     (settled-low (settledEnergy x y) _ (energy-low x y) (λ E.
@@ -160,7 +160,7 @@ loss-low dir c (Measured T) = given-low T
 loss-low dir c Default20 = unless-low 12 (isProject dir || ltb (c .baseline) (c .project)) _ (omega arith) (given-low 2000)
 loss-low dir c Default3 = unless-low 12 (isBaseline dir || ltb (c .project) (c .baseline)) _ (omega arith) (given-low 300)
 
-figure-low : (b : Books) (s : Source) → Low (sourceFigure b s)
+figure-low : (b : ReportInput) (s : Source) → Low (sourceFigure b s)
 unfolding sourceFigure
 figure-low b s =
     then-low _ _ (chosen-low (direction (s .side)) (b .grid) _ _ (λ S. captive-low (direction (s .side)) (siteOf (plantsOf b) S)) (s .supply)) (λ x.
@@ -175,45 +175,45 @@ counted-more : (count : ℕ) (fs : Figures) → Counted count fs → Counted (su
 counted-more count (declined n k) h = h
 counted-more count (figured fs) h = omega arith
 
-joined-counted : (count : ℕ) (f : Figured) (fs : Figures) → Counted count fs → Counted (suc count) (joined f fs)
-joined-counted count f (declined n k) h = h
-joined-counted count f (figured fs) h = omega arith
+prepended-counted : (count : ℕ) (f : Figured) (fs : Figures) → Counted count fs → Counted (suc count) (prepended f fs)
+prepended-counted count f (declined n k) h = h
+prepended-counted count f (figured fs) h = omega arith
 
 with-counted : (count : ℕ) (x : Numbered Source) (o : Outcome Figure) (rest : Figures) → x .number < 100 → Low o → Counted count rest
     → Counted (suc count) (withFigure x o rest)
 with-counted count x (refused n) rest h low k = (low .number, h)
-with-counted count x (given f) rest h low k = joined-counted count _ rest k
+with-counted count x (given f) rest h low k = prepended-counted count _ rest k
 
-figures-counted : (b : Books) (place : ℕ → Option Source) (from count : ℕ) → from + count ≤ 100
+figures-counted : (b : ReportInput) (place : ℕ → Option Source) (from count : ℕ) → from + count ≤ 100
     → Counted count (figuresFrom b (standing place from count))
 unfolding figuresFrom standing
 figures-counted b place from zero h = omega arith
 figures-counted b place from (suc count) h = go (place from) (figures-counted b place (suc from) count (omega arith))
   where
     go : (o : Option Source) → Counted count (figuresFrom b (standing place (suc from) count))
-        → Counted (suc count) (figuresFrom b (listed from o (standing place (suc from) count)))
+        → Counted (suc count) (figuresFrom b (prependStanding from o (standing place (suc from) count)))
     go none k = counted-more count (figuresFrom b (standing place (suc from) count)) k
     go (some s) k =
         with-counted count (numbered from s) (sourceFigure b s) (figuresFrom b (standing place (suc from) count)) (omega arith) (figure-low b s) k
 
 -- ---- the numbers of a report
 
-pub record SmallSide (s : SideReport) : Type 0 where
+pub record SideWithin (s : SideReport) : Type 0 where
   pub tonnes : s .tonnes ≤ 1000000000
   pub grams : s .grams ≤ 1000000000000000
   pub sources : s .sources ≤ 32
 
-pub record SmallReport (r : Report) : Type 0 where
-  pub project : SmallSide (r .project)
-  pub leakage : SmallSide (r .leakage)
-  pub baseline : SmallSide (r .baseline)
+pub record ReportWithin (r : Report) : Type 0 where
+  pub project : SideWithin (r .project)
+  pub leakage : SideWithin (r .leakage)
+  pub baseline : SideWithin (r .baseline)
   pub reduction : natAbs (r .reduction) ≤ 3000000000
 
-side-small : (side : Side) (fs : List Figured) → length fs ≤ 32 → sideFits (sideReport side fs) ≡ true → SmallSide (sideReport side fs)
+side-within : (side : Side) (fs : List Figured) → length fs ≤ 32 → sideFits (sideReport side fs) ≡ true → SideWithin (sideReport side fs)
 unfolding sideReport ofSide
-side-small side fs h fits =
+side-within side fs h fits =
     let g = leb-true _ 1000000000000000 fits in
-    let k : length (ofSide side fs) ≤ length fs = those-length _ fs in
+    let k : length (ofSide side fs) ≤ length fs = selected-length _ fs in
     record {
       tonnes = divided-at-most _ _ 1000000 1000000000 (omega arith) g;
       grams = g;
@@ -228,14 +228,14 @@ differ-size (negsuc n) a b h = omega arith
 reduction-size : (b p l : ℕ) → natAbs (reduction b p l) ≤ b + (p + l)
 reduction-size b p l = differ-size (reduction b p l) b (p + l) (reduction-differ b p l)
 
-report-small : (fs : List Figured) → length fs ≤ 32 → allFit (reportFrom fs) ≡ true → SmallReport (reportFrom fs)
+report-within : (fs : List Figured) → length fs ≤ 32 → allFit (reportFrom fs) ≡ true → ReportWithin (reportFrom fs)
 unfolding reportFrom
-report-small fs h fits =
+report-within fs h fits =
     let p = and-both (sideFits (reportFrom fs .project) && sideFits (reportFrom fs .leakage)) _ fits in
     let q = and-both (sideFits (reportFrom fs .project)) _ (p .0) in
-    let project = side-small _ fs h (q .0) in
-    let leakage = side-small _ fs h (q .1) in
-    let baseline = side-small _ fs h (p .1) in
+    let project = side-within _ fs h (q .0) in
+    let leakage = side-within _ fs h (q .1) in
+    let baseline = side-within _ fs h (p .1) in
     record {
       project = project;
       leakage = leakage;
@@ -245,12 +245,12 @@ report-small fs h fits =
 
 -- ---- the answers
 
-abbrev pub Small : Reply → Type 0
-Small ok = Unit {0}
-Small (refusedWith n) = n < 100
-Small (refusedAt n k) = (n < 100) × (k < 100)
-Small (reported r) = SmallReport r
-Small damaged = Unit {0}
+abbrev pub ReplyWithin : Reply → Type 0
+ReplyWithin ok = Unit {0}
+ReplyWithin (refusedWith n) = n < 100
+ReplyWithin (refusedAt n k) = (n < 100) × (k < 100)
+ReplyWithin (reported r) = ReportWithin r
+ReplyWithin damaged = Unit {0}
 
 -- An answer that is no report's: accepted, or refused with a number.
 abbrev pub Plain : Reply → Type 0
@@ -274,36 +274,36 @@ reply-plain l (dropPlant n) = inr (acknowledged-plain _ (drop-low 7 (isThere (re
 reply-plain l (dropSource n) = inr (acknowledged-plain _ (drop-low 31 (isThere (recorded l .source n)) n))
 reply-plain l report = inl refl
 
-report-of-small : (b : Books) → Small (reportOf b)
+report-of-within : (b : ReportInput) → ReplyWithin (reportOf b)
 unfolding reportOf
-report-of-small b = go (figuresFrom b (sourcesOf b)) (figures-counted b (b .source) 0 32 (omega arith))
+report-of-within b = go (figuresFrom b (sourcesOf b)) (figures-counted b (b .source) 0 32 (omega arith))
   where
     by-fit : (fs : List Figured) (t : Bool) → length fs ≤ 32 → allFit (reportFrom fs) ≡ t
-        → Small (cond t (reported (reportFrom fs)) (refusedWith 13))
-    by-fit fs true k e = report-small fs k e
+        → ReplyWithin (cond t (reported (reportFrom fs)) (refusedWith 13))
+    by-fit fs true k e = report-within fs k e
     by-fit fs false k e = omega arith
 
-    go : (fs : Figures) → Counted 32 fs → Small (replyFrom fs)
+    go : (fs : Figures) → Counted 32 fs → ReplyWithin (replyFrom fs)
     go (declined n k) h = h
     go (figured fs) h = by-fit fs (allFit (reportFrom fs)) h refl
 
-plain-small : (r : Reply) → Plain r → Small r
-plain-small ok h = tt
-plain-small (refusedWith n) h = h
-plain-small (refusedAt n k) h = absurd h
-plain-small (reported r) h = absurd h
-plain-small damaged h = tt
+plain-within : (r : Reply) → Plain r → ReplyWithin r
+plain-within ok h = tt
+plain-within (refusedWith n) h = h
+plain-within (refusedAt n k) h = absurd h
+plain-within (reported r) h = absurd h
+plain-within damaged h = tt
 
-report-small-reply : (l : Ledger) → Small (reply l report)
+report-within-reply : (l : Ledger) → ReplyWithin (reply l report)
 unfolding reply checkedReportOf
-report-small-reply l = go (intact (recorded l))
+report-within-reply l = go (intact (recorded l))
   where
-    go : (t : Bool) → Small (cond t (reportOf (recorded l)) damaged)
-    go true = report-of-small (recorded l)
+    go : (t : Bool) → ReplyWithin (cond t (reportOf (recorded l)) damaged)
+    go true = report-of-within (recorded l)
     go false = tt
 
-pub reply-small : (l : Ledger) (c : Call) → Small (reply l c)
-reply-small l c = elim (reply-plain l c) [
-  | inl e ↦ rw e (report-small-reply l)
-  | inr p ↦ plain-small (reply l c) p
+pub reply-within : (l : Ledger) (c : Call) → ReplyWithin (reply l c)
+reply-within l c = elim (reply-plain l c) [
+  | inl e ↦ rw e (report-within-reply l)
+  | inr p ↦ plain-within (reply l c) p
 ]

@@ -21,8 +21,8 @@ use Rattle.emissions.proofs.Factors.{GridSound}
 use Rattle.records.specs.Judging.{gridJudged, sourceJudged, isThere, dropJudged, plantJudged, whereGiven}
 use Rattle.records.specs.Records.{noGrid, noPlant, noSource, gridRecord, plantRecord, sourceRecord, plantIn, sourceIn}
 use Rattle.report.specs.Intact.{gridIntact, plantIntact, sourceIntact, allIntact}
-use Rattle.report.specs.Report.{Books, Report, Reply, reported, damaged, reportOf, checkedReportOf, acknowledged, intact}
-use Rattle.ledger.specs.Standing.{Call, enterGrid, enterPlant, enterSource, dropPlant, dropSource, report, Standing, nothing, put, after, keptOf, books, answer}
+use Rattle.report.specs.Report.{ReportInput, Report, Reply, reported, damaged, reportOf, checkedReportOf, acknowledged, intact}
+use Rattle.ledger.specs.Standing.{Call, enterGrid, enterPlant, enterSource, dropPlant, dropSource, report, Standing, nothing, put, after, keptOf, inputOfStanding, answer}
 use Rattle.ledger.specs.Operations.{newLedger, recorded, withGrid, withPlant, withSource, step, reply}
 use Rattle.ledger.specs.Owner.{ownerStep, ownerReply}
 use Rattle.ledger.specs.Claim.{Claim, Demand3, OwnerDemand3}
@@ -41,7 +41,7 @@ use Rattle.ledger.proofs.Figures.{Accepted, report-safe}
 pub record Agree (l : Ledger) (s : Standing) : Type 0 where
   pub plants : length (l .plants) ≡ 8
   pub sources : length (l .sources) ≡ 32
-  pub same : recorded l ≡ books s
+  pub same : recorded l ≡ inputOfStanding s
   pub accepted : Accepted s
 
 -- ---- places
@@ -81,7 +81,7 @@ module _ (l : Ledger) (s : Standing) (h : Agree l s) where
       record {
         plants = h .plants;
         sources = h .sources;
-        same = ap (λ (b : Books). record { grid = Entered g; plant = b .plant; source = b .source }) (h .same);
+        same = ap (λ (b : ReportInput). record { grid = Entered g; plant = b .plant; source = b .source }) (h .same);
         accepted = record { grid = fits; plant = h .accepted .plant; source = h .accepted .source };
       }
 
@@ -94,7 +94,7 @@ module _ (l : Ledger) (s : Standing) (h : Agree l s) where
         same =
             ap (λ (f : ℕ → Option Plant). record { grid = l .grid .grid; plant = f; source = recorded l .source })
             (fun-ext (λ k. set-place plantIn noPlant (l .plants) n r k (omega (arith, h .plants))))
-            ∙ ap (λ (b : Books). record { grid = b .grid; plant = put (b .plant) n (plantIn r); source = b .source }) (h .same);
+            ∙ ap (λ (b : ReportInput). record { grid = b .grid; plant = put (b .plant) n (plantIn r); source = b .source }) (h .same);
         accepted =
             record {
               grid = h .accepted .grid;
@@ -112,7 +112,7 @@ module _ (l : Ledger) (s : Standing) (h : Agree l s) where
         same =
             ap (λ (f : ℕ → Option Source). record { grid = l .grid .grid; plant = recorded l .plant; source = f })
             (fun-ext (λ k. set-place sourceIn noSource (l .sources) n r k (omega (arith, h .sources))))
-            ∙ ap (λ (b : Books). record { grid = b .grid; plant = b .plant; source = put (b .source) n (sourceIn r) }) (h .same)
+            ∙ ap (λ (b : ReportInput). record { grid = b .grid; plant = b .plant; source = put (b .source) n (sourceIn r) }) (h .same)
             ∙ ap (λ (o : Option Source). record { grid = s .grid; plant = s .plant; source = put (λ j. keptOf (s .source j)) n o }) shows
             ∙ ap (λ (f : ℕ → Option Source). record { grid = s .grid; plant = s .plant; source = f }) (sym (fun-ext (kept-put (s .source) n v)));
         accepted =
@@ -164,7 +164,7 @@ keeps l s (enterSource n e) h = go (sourceJudged n e) refl
         (λ d w. subst (SourceFacts n) (Option·some-injective e d w) (f .1))
 keeps l s (dropPlant n) h =
     subst (λ (o : Outcome (Unit {0})). Agree (whereGiven o (λ a. withPlant l n noPlant) l) (after s (dropPlant n)))
-    (sym (ap (λ (b : Books). dropJudged 7 (isThere (b .plant n)) n) (h .same))) (go (dropJudged 7 (isThere (s .plant n)) n) refl)
+    (sym (ap (λ (b : ReportInput). dropJudged 7 (isThere (b .plant n)) n) (h .same))) (go (dropJudged 7 (isThere (s .plant n)) n) refl)
   where
     go : (o : Outcome (Unit {0})) → dropJudged 7 (isThere (s .plant n)) n ≡ o
         → Agree (whereGiven o (λ a. withPlant l n noPlant) l) (whereGiven o (λ a. record { grid = s .grid; plant = put (s .plant) n none; source = s .source }) s)
@@ -172,7 +172,7 @@ keeps l s (dropPlant n) h =
     go (given u) e = plant-put l s h n noPlant (drop-facts 7 _ n u e) (λ p w. absurd (never-some w))
 keeps l s (dropSource n) h =
     subst (λ (o : Outcome (Unit {0})). Agree (whereGiven o (λ a. withSource l n noSource) l) (after s (dropSource n)))
-    (sym (ap (λ (b : Books). dropJudged 31 (isThere (b .source n)) n) (h .same) ∙ ap (λ (t : Bool). dropJudged 31 t n) (there (s .source n))))
+    (sym (ap (λ (b : ReportInput). dropJudged 31 (isThere (b .source n)) n) (h .same) ∙ ap (λ (t : Bool). dropJudged 31 t n) (there (s .source n))))
     (go (dropJudged 31 (isThere (s .source n)) n) refl)
   where
     go : (o : Outcome (Unit {0})) → dropJudged 31 (isThere (s .source n)) n ≡ o
@@ -193,9 +193,9 @@ grid-intact Absent h = refl
 grid-intact (Entered g) h = le-leb (g .margin) factorLimit h
 
 -- What stands was accepted, so that nothing of it is damaged.
-books-intact : (s : Standing) → Accepted s → intact (books s) ≡ true
+input-intact : (s : Standing) → Accepted s → intact (inputOfStanding s) ≡ true
 unfolding intact
-books-intact s h =
+input-intact s h =
     simp (
       grid-intact (s .grid) (h .grid),
       all-intact plantIntact (s .plant) (λ n. plant n (s .plant n) refl) 8,
@@ -218,13 +218,13 @@ module _ (l : Ledger) (s : Standing) (h : Agree l s) where
   -- A call that is answered with no report.
   acknowledged-good : {A : Type 0} (c : Call) (o : Outcome A) → answer (recorded l) c ≡ acknowledged o → Claim s c (answer (recorded l) c)
   acknowledged-good c o e =
-      record { answered = ap (λ (b : Books). answer b c) (h .same); safe = λ r w. absurd (never-reported o r (sym e ∙ w)) }
+      record { answered = ap (λ (b : ReportInput). answer b c) (h .same); safe = λ r w. absurd (never-reported o r (sym e ∙ w)) }
 
-  report-answered : reply l report ≡ reportOf (books s)
+  report-answered : reply l report ≡ reportOf (inputOfStanding s)
   unfolding reply checkedReportOf
   report-answered =
-      ap (λ (b : Books). cond (intact b) (reportOf b) damaged) (h .same)
-      ∙ ap (λ (t : Bool). cond t (reportOf (books s)) damaged) (books-intact s (h .accepted))
+      ap (λ (b : ReportInput). cond (intact b) (reportOf b) damaged) (h .same)
+      ∙ ap (λ (t : Bool). cond t (reportOf (inputOfStanding s)) damaged) (input-intact s (h .accepted))
 
 good : (l : Ledger) (s : Standing) (c : Call) → Agree l s → Claim s c (reply l c)
 unfolding reply answer

@@ -21,7 +21,7 @@ use Rattle.emissions.specs.Factor.{factorLimit, direction}
 use Rattle.emissions.specs.declared.GridEntry.{GridEntry}
 use Rattle.rounding.proofs.Outcomes.{never-given, given-is, test-held}
 use Rattle.emissions.proofs.Losses.{LossSound}
-use Rattle.records.specs.Judging.{gridJudged, dropJudged, metersOf, onRead, onEnergy, kept, sourceJudged, linesOf, allWithinLimits, plantJudged, siteFits, lossFits, lossMatches}
+use Rattle.records.specs.Judging.{gridJudged, dropJudged, metersOf, onRead, onEnergy, kept, sourceJudged, linesOf, allWithinLimits, plantJudged, supplyWithinLimits, lossWithinLimits, lossMatches}
 use Rattle.report.specs.Intact.{isGiven, sourceIntact}
 use Rattle.report.proofs.Walks.{loss-sound}
 use Rattle.ledger.specs.Standing.{energyOf}
@@ -98,9 +98,9 @@ pub source-facts : (n : ℕ) (e : SourceEntry) (a : Source) → sourceJudged n e
 unfolding sourceJudged metersOf
 source-facts n e a h =
     let dir = direction (e .side) in
-    let p = test-held 1 (leb n 31 && siteFits (e .supply)) _ h in
-    let q = test-held 2 (lossFits (e .loss)) _ (p .1) in
-    let i = and-both (leb n 31) (siteFits (e .supply)) (p .0) in
+    let p = test-held 1 (leb n 31 && supplyWithinLimits (e .supply)) _ h in
+    let q = test-held 2 (lossWithinLimits (e .loss)) _ (p .1) in
+    let i = and-both (leb n 31) (supplyWithinLimits (e .supply)) (p .0) in
     on-read (judgedMeters dir (e .count) (e .meters)) _ (q .1) λ x y read r.
     let s = test-held 5 (lossMatches (e .supply) (e .loss)) _ r in
     on-energy (settledEnergy x y) (λ E. given (kept e E)) (s .1) λ E settled t.

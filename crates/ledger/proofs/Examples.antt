@@ -35,8 +35,8 @@ use Rattle.emissions.proofs.Factors.{GridSound}
 use Rattle.records.specs.Judging.{gridJudged, metersOf, sourceJudged, isThere, dropJudged, linesOf, allWithinLimits, plantJudged}
 use Rattle.records.specs.Records.{noGrid, noPlant, noSource, gridRecord}
 use Rattle.report.specs.Intact.{allIntact}
-use Rattle.report.specs.Report.{Books, standing, those, consumption, plantMilligrams, exactPlant, plantsAt, siteOf, sourcesOf, sourceFigure, Figured, Figures, declined, figured, figuresFrom, ofSide, SideReport, sideReport, Report, reduction, reportFrom, Reply, ok, refusedWith, refusedAt, reported, damaged, allFit, replyFrom, reportOf, checkedReportOf, acknowledged, intact}
-use Rattle.ledger.specs.Standing.{Call, enterGrid, enterPlant, enterSource, dropPlant, dropSource, report, Standing, nothing, after, energyOf, books, answer}
+use Rattle.report.specs.Report.{ReportInput, standing, selected, consumption, plantMilligrams, exactPlant, plantsAt, siteOf, sourcesOf, sourceFigure, Figured, Figures, declined, figured, figuresFrom, ofSide, SideReport, sideReport, Report, reduction, reportFrom, Reply, ok, refusedWith, refusedAt, reported, damaged, allFit, replyFrom, reportOf, checkedReportOf, acknowledged, intact}
+use Rattle.ledger.specs.Standing.{Call, enterGrid, enterPlant, enterSource, dropPlant, dropSource, report, Standing, nothing, after, energyOf, inputOfStanding, answer}
 use Rattle.ledger.specs.Exact.{exactFigure, gap, figuresOf, exactSide, exactReduction}
 use Rattle.ledger.specs.Operations.{newLedger, step, reply}
 use Rattle.ledger.specs.Claim.{ReportSafe}
@@ -87,7 +87,7 @@ zeros = totals 0 0 0
 
 -- The answers to a list of calls from a new ledger. `unfolding run` opens what they compute by.
 unfoldable pub run : List Call → List Reply
-unfolding answers step reply newLedger noGrid noPlant noSource answer checkedReportOf intact allIntact gridJudged linesOf allWithinLimits plantJudged metersOf sourceJudged dropJudged withinLimits exactMilligrams roundedMilligrams judgedMeters judgedReadings allMeters anyMeter roundedAdding roundedTaking settledEnergy sum divided exactRegister isReadableRegister ofBits standing those consumption plantMilligrams plantsAt siteOf sourceFigure figuresFrom ofSide sideReport reduction reportFrom reportOf margin gridDefault captiveJudged lowDefault chosen lossOf energyWithLosses gramsOf figureOf
+unfolding answers step reply newLedger noGrid noPlant noSource answer checkedReportOf intact allIntact gridJudged linesOf allWithinLimits plantJudged metersOf sourceJudged dropJudged withinLimits exactMilligrams roundedMilligrams judgedMeters judgedReadings allMeters anyMeter roundedAdding roundedTaking settledEnergy sum divided exactRegister isReadableRegister ofBits standing selected consumption plantMilligrams plantsAt siteOf sourceFigure figuresFrom ofSide sideReport reduction reportFrom reportOf margin gridDefault captiveJudged lowDefault chosen lossOf energyWithLosses gramsOf figureOf
 run calls = answers step reply newLedger calls
 
 -- What stands after a list of calls. `unfolding stands` opens what its exact values compute by.
@@ -320,7 +320,7 @@ pub many-lines : (figuresOf (stands manyLines)
     ∷ manyLinesFigure 1 Leakage
     ∷ record { number = 2; side = Baseline; figure = record { choice = captive 0; loss = 5000; factor = 999689; energy = 149999649891; grams = 149952999999 } }
     ∷ [])
-    × (reportOf (books (stands manyLines))
+    × (reportOf (inputOfStanding (stands manyLines))
     ≡ reported (record { project = totals 149954 149953000002 1; leakage = totals 149954 149953000002 1; baseline = totals 149952 149952999999 1; reduction = negsuc 149955 }))
 unfolding stands
 many-lines = (refl, refl)
@@ -378,7 +378,7 @@ entry-never-damaged : {A : Type 0} (o : Outcome A) → acknowledged o ≡ damage
 entry-never-damaged (refused n) e = let z : _≡_ {A = ℕ} 0 1 = cc in omega arith
 entry-never-damaged (given a) e = let z : _≡_ {A = ℕ} 0 1 = cc in omega arith
 
-answer-never-damaged : (b : Books) (c : Call) → answer b c ≡ damaged → ⊥
+answer-never-damaged : (b : ReportInput) (c : Call) → answer b c ≡ damaged → ⊥
 unfolding answer reportOf
 answer-never-damaged b (enterGrid g) e = entry-never-damaged (gridJudged g) e
 answer-never-damaged b (enterPlant n p) e = entry-never-damaged (plantJudged n p) e
@@ -402,5 +402,5 @@ is-damaged = refl
 pub no-calls-leave-it : (calls : List Call) → afterCalls step newLedger calls ≡ damagedLedger → ⊥
 no-calls-leave-it calls e =
     let h = records-show calls in
-    let k : 10000001 ≤ 10000000 = subst GridSound (sym (ap (λ (b : Books). b .grid) (h .same)) ∙ ap (λ (l : Ledger). l .grid .grid) e) (h .accepted .grid) in
+    let k : 10000001 ≤ 10000000 = subst GridSound (sym (ap (λ (b : ReportInput). b .grid) (h .same)) ∙ ap (λ (l : Ledger). l .grid .grid) e) (h .accepted .grid) in
     omega arith

@@ -27,7 +27,7 @@ use Rattle.emissions.proofs.Losses.{loss-limit}
 use Rattle.emissions.proofs.Figures.{figure-conservative, figure-within-allowance, figure-over}
 use Rattle.records.specs.Judging.{metersOf, kept}
 use Rattle.report.specs.Report.{Numbered, sourcesOf, plantsOf, consumption, comparesFactor, comparesLoss, siteOf, captiveAt, sourceFigure, Figured, Figures, declined, figured, withFigure, figuresFrom, sideIndex, ofSide, gramsIn, sideReport, Report, reportFrom, refusedWith, refusedAt, reported, allFit, replyFrom, reportOf}
-use Rattle.ledger.specs.Standing.{Standing, energyOf, keptOf, books}
+use Rattle.ledger.specs.Standing.{Standing, energyOf, keptOf, inputOfStanding}
 use Rattle.ledger.specs.Exact.{figuredAt, exactEnergyOf, exactFigure, gap, listOf, figuresOf, exactSide, exactReduction, sideAllowance}
 use Rattle.ledger.specs.Claim.{SourceSafe, SideSafe, ReportSafe}
 use Rattle.records.specs.declared.Plant.{Plant}
@@ -36,7 +36,7 @@ use Rattle.records.specs.declared.Source.{Source}
 use Rattle.ledger.proofs.Entries.{PlantFacts, SourceFacts}
 use Rattle.report.proofs.Sites.{site-sound}
 use Rattle.ledger.proofs.Sides.{side-conservative, reduction-safe, reduction-near, reduction-over}
-use Rattle.report.proofs.Lists.{numbered, never-some, standing-all, standing-at, those-all}
+use Rattle.report.proofs.Lists.{numbered, never-some, standing-all, standing-at, selected-all}
 
 -- Everything that stands was accepted.
 pub record Accepted (s : Standing) : Type 0 where
@@ -58,22 +58,22 @@ energy-over e = unit-above-zero
 
 -- The figure by its option and its loss.
 module _ (s : Standing) (h : Accepted s) (n : ℕ) (e : SourceEntry) (at : s .source n ≡ some e) (x : Chosen) (T : ℕ)
-    (hc : chosen (direction (e .side)) (s .grid) (captiveAt (direction (e .side)) (plantsOf (books s))) (consumption comparesFactor (sourcesOf (books s))) (e .supply)
+    (hc : chosen (direction (e .side)) (s .grid) (captiveAt (direction (e .side)) (plantsOf (inputOfStanding s))) (consumption comparesFactor (sourcesOf (inputOfStanding s))) (e .supply)
     ≡ given x)
-    (hT : lossOf (direction (e .side)) (consumption comparesLoss (sourcesOf (books s))) (e .loss) ≡ given T) where
+    (hT : lossOf (direction (e .side)) (consumption comparesLoss (sourcesOf (inputOfStanding s))) (e .loss) ≡ given T) where
   abbrev F : ℕ
   F = x .factor
 
   abbrev exactF : Ratio
-  exactF = exactFactorOf (s .grid) (siteOf (plantsOf (books s))) (x .choice)
+  exactF = exactFactorOf (s .grid) (siteOf (plantsOf (inputOfStanding s))) (x .choice)
 
   factor : FactorSound (direction (e .side)) F exactF
   factor =
-      chosen-sound (direction (e .side)) (s .grid) (siteOf (plantsOf (books s))) (consumption comparesFactor (sourcesOf (books s))) (h .grid)
+      chosen-sound (direction (e .side)) (s .grid) (siteOf (plantsOf (inputOfStanding s))) (consumption comparesFactor (sourcesOf (inputOfStanding s))) (h .grid)
       (site-sound (s .plant) (λ k p q. h .plant k p q .lines)) (e .supply) x hc
 
   loss : T ≤ 5000
-  loss = loss-limit (direction (e .side)) (consumption comparesLoss (sourcesOf (books s))) (e .loss) T (h .source n e at .loss) hT
+  loss = loss-limit (direction (e .side)) (consumption comparesLoss (sourcesOf (inputOfStanding s))) (e .loss) T (h .source n e at .loss) hT
 
   exact-is : exactFigure s (figuredAt n e (figureOf (direction (e .side)) (energyOf e) (x .choice) T F)) ≡ exactGrams (exactEnergy (metersOf e)) T exactF
   unfolding exactFigure figureOf
@@ -98,12 +98,12 @@ module _ (s : Standing) (h : Accepted s) (n : ℕ) (e : SourceEntry) (at : s .so
       }
 
 pub source-safe : (s : Standing) → Accepted s → (n : ℕ) (e : SourceEntry) → s .source n ≡ some e → (f : Figure)
-    → sourceFigure (books s) (kept e (energyOf e)) ≡ given f → FiguredSafe s (figuredAt n e f)
+    → sourceFigure (inputOfStanding s) (kept e (energyOf e)) ≡ given f → FiguredSafe s (figuredAt n e f)
 unfolding sourceFigure
 source-safe s h n e at f q =
     let dir = direction (e .side) in
-    let a = then-given (chosen dir (s .grid) (captiveAt dir (plantsOf (books s))) (consumption comparesFactor (sourcesOf (books s))) (e .supply)) _ q in
-    let b = then-given (lossOf (direction (e .side)) (consumption comparesLoss (sourcesOf (books s))) (e .loss)) _ (a .2) in
+    let a = then-given (chosen dir (s .grid) (captiveAt dir (plantsOf (inputOfStanding s))) (consumption comparesFactor (sourcesOf (inputOfStanding s))) (e .supply)) _ q in
+    let b = then-given (lossOf (direction (e .side)) (consumption comparesLoss (sourcesOf (inputOfStanding s))) (e .loss)) _ (a .2) in
     subst (λ (g : Figure). FiguredSafe s (figuredAt n e g)) (given-is (b .2)) (option-safe s h n e at (a .0) (b .0) (a .1) (b .1))
 
 -- ---- the list of figures
@@ -116,12 +116,12 @@ shown : (s : Standing) (n : ℕ) (a : Source) (o : Option SourceEntry) → s .so
 shown s n a none p q = absurd (never-some q)
 shown s n a (some e) p q = (e, p, cc)
 
-all-shown : (s : Standing) → All (Shown s) (sourcesOf (books s))
-all-shown s = standing-all (books s .source) (Shown s) (λ n a q. shown s n a (s .source n) refl q) 0 32
+all-shown : (s : Standing) → All (Shown s) (sourcesOf (inputOfStanding s))
+all-shown s = standing-all (inputOfStanding s .source) (Shown s) (λ n a q. shown s n a (s .source n) refl q) 0 32
 
 -- The source has a figure.
 abbrev Counted : Standing → Numbered Source → Type 0
-Counted s x = (f : Figure) × (sourceFigure (books s) (x .item) ≡ given f)
+Counted s x = (f : Figure) × (sourceFigure (inputOfStanding s) (x .item) ≡ given f)
 
 -- Where no source is refused, each has a figure, and every figure is safe.
 abbrev Whole : Standing → List (Numbered Source) → List Figured → Type 0
@@ -131,20 +131,20 @@ never-figured : {n k : ℕ} {fs : List Figured} → declined n k ≡ figured fs 
 never-figured e = let z : _≡_ {A = ℕ} 0 1 = cc in omega arith
 
 figures-whole : (s : Standing) → Accepted s → (xs : List (Numbered Source)) → All (Shown s) xs → (fs : List Figured)
-    → figuresFrom (books s) xs ≡ figured fs → Whole s xs fs
+    → figuresFrom (inputOfStanding s) xs ≡ figured fs → Whole s xs fs
 unfolding figuresFrom
 figures-whole s h [] k fs e = let z : [] ≡ fs = cc in (tt, subst (All (FiguredSafe s)) z tt)
 figures-whole s h (x ∷ xs) k fs e =
-    go (sourceFigure (books s) (x .item)) (figuresFrom (books s) xs) refl refl e (figures-whole s h xs (k .1))
+    go (sourceFigure (inputOfStanding s) (x .item)) (figuresFrom (inputOfStanding s) xs) refl refl e (figures-whole s h xs (k .1))
   where
-    safe : (f : Figure) → sourceFigure (books s) (x .item) ≡ given f → FiguredSafe s (record { number = x .number; side = x .item .side; figure = f })
+    safe : (f : Figure) → sourceFigure (inputOfStanding s) (x .item) ≡ given f → FiguredSafe s (record { number = x .number; side = x .item .side; figure = f })
     safe f q =
         let e = k .0 .0 in
         subst (λ (a : Source). FiguredSafe s (record { number = x .number; side = a .side; figure = f })) (sym (k .0 .2))
-        (source-safe s h (x .number) e (k .0 .1) f (ap (sourceFigure (books s)) (sym (k .0 .2)) ∙ q))
+        (source-safe s h (x .number) e (k .0 .1) f (ap (sourceFigure (inputOfStanding s)) (sym (k .0 .2)) ∙ q))
 
-    go : (o : Outcome Figure) (r : Figures) → sourceFigure (books s) (x .item) ≡ o → figuresFrom (books s) xs ≡ r → withFigure x o r ≡ figured fs
-        → ((gs : List Figured) → figuresFrom (books s) xs ≡ figured gs → Whole s xs gs) → Whole s (x ∷ xs) fs
+    go : (o : Outcome Figure) (r : Figures) → sourceFigure (inputOfStanding s) (x .item) ≡ o → figuresFrom (inputOfStanding s) xs ≡ r → withFigure x o r ≡ figured fs
+        → ((gs : List Figured) → figuresFrom (inputOfStanding s) xs ≡ figured gs → Whole s xs gs) → Whole s (x ∷ xs) fs
     go (refused n) r p q w ih = absurd (never-figured w)
     go (given f) (declined n j) p q w ih = absurd (never-figured w)
     go (given f) (figured gs) p q w ih =
@@ -170,7 +170,7 @@ module _ (s : Standing) (side : Side) (fs : List Figured) (h : All (FiguredSafe 
 
   in-side : All P (ofSide side fs)
   unfolding ofSide
-  in-side = those-all (FiguredSafe s) (λ (f : Figured). eqb (sideIndex (f .side)) (sideIndex side)) fs h
+  in-side = selected-all (FiguredSafe s) (λ (f : Figured). eqb (sideIndex (f .side)) (sideIndex side)) fs h
 
   side-over : 0 < sumᵣ (map (exactFigure s) (ofSide side fs)) .over
   side-over = sum-over (exactFigure s) (ofSide side fs) (all-then {P = P} (λ f k. k .0 .fraction) (ofSide side fs) in-side)
@@ -194,9 +194,9 @@ module _ (s : Standing) (side : Side) (fs : List Figured) (h : All (FiguredSafe 
 
 -- ---- the whole report
 
-module _ (s : Standing) (h : Accepted s) (fs : List Figured) (e : figuresFrom (books s) (sourcesOf (books s)) ≡ figured fs) where
-  all-safe : Whole s (sourcesOf (books s)) fs
-  all-safe = figures-whole s h (sourcesOf (books s)) (all-shown s) fs e
+module _ (s : Standing) (h : Accepted s) (fs : List Figured) (e : figuresFrom (inputOfStanding s) (sourcesOf (inputOfStanding s)) ≡ figured fs) where
+  all-safe : Whole s (sourcesOf (inputOfStanding s)) fs
+  all-safe = figures-whole s h (sourcesOf (inputOfStanding s)) (all-shown s) fs e
 
   each-side : (side : Side) → SideSafe s side (sideReport side fs)
   each-side side = side-safe s side fs (all-safe .1) (ap listOf e)
@@ -204,7 +204,7 @@ module _ (s : Standing) (h : Accepted s) (fs : List Figured) (e : figuresFrom (b
   each-source : (n : ℕ) (a : SourceEntry) → s .source n ≡ some a → (f : Figure) × SourceSafe s n a f
   unfolding gap
   each-source n a at =
-      let c = standing-at (books s .source) (Counted s) 0 32 (all-safe .0) n (kept a (energyOf a)) (ap keptOf at) zero-le
+      let c = standing-at (inputOfStanding s .source) (Counted s) 0 32 (all-safe .0) n (kept a (energyOf a)) (ap keptOf at) zero-le
       (omega (arith, h .source n a at .number)) in
       let k = source-safe s h n a at (c .0) (c .1) in
       let x = figuredAt n a (c .0) in
@@ -238,9 +238,9 @@ module _ (s : Standing) (h : Accepted s) (fs : List Figured) (e : figuresFrom (b
       }
 
 -- A report that is given is safe.
-pub report-safe : (s : Standing) → Accepted s → (r : Report) → reportOf (books s) ≡ reported r → ReportSafe s r
+pub report-safe : (s : Standing) → Accepted s → (r : Report) → reportOf (inputOfStanding s) ≡ reported r → ReportSafe s r
 unfolding reportOf
-report-safe s h r q = go (figuresFrom (books s) (sourcesOf (books s))) refl q
+report-safe s h r q = go (figuresFrom (inputOfStanding s) (sourcesOf (inputOfStanding s))) refl q
   where
     never-at : {n k : ℕ} → refusedAt n k ≡ reported r → ⊥
     never-at e = let z : _≡_ {A = ℕ} 0 1 = cc in omega arith
@@ -252,6 +252,6 @@ report-safe s h r q = go (figuresFrom (books s) (sourcesOf (books s))) refl q
     fitted true r′ e = cc
     fitted false r′ e = absurd (never-with e)
 
-    go : (x : Figures) → figuresFrom (books s) (sourcesOf (books s)) ≡ x → replyFrom x ≡ reported r → ReportSafe s r
+    go : (x : Figures) → figuresFrom (inputOfStanding s) (sourcesOf (inputOfStanding s)) ≡ x → replyFrom x ≡ reported r → ReportSafe s r
     go (declined n k) e w = absurd (never-at w)
     go (figured fs) e w = subst (ReportSafe s) (fitted (allFit (reportFrom fs)) (reportFrom fs) w) (figures-safe s h fs e)

@@ -12,7 +12,7 @@ use Rattle.emissions.specs.declared.Side.{Side}
 use Rattle.emissions.specs.declared.Side.the-variants.{Project, Leakage, Baseline}
 use Rattle.records.specs.Judging.{kept}
 use Rattle.report.specs.Report.{SideReport, Report, Reply, reported, sourceFigure}
-use Rattle.ledger.specs.Standing.{Call, Standing, nothing, after, energyOf, books, answer}
+use Rattle.ledger.specs.Standing.{Call, Standing, nothing, after, energyOf, inputOfStanding, answer}
 use Rattle.ledger.specs.Exact.{figuredAt, exactFigure, gap, exactSide, exactReduction, sideAllowance, reductionAllowance}
 use Rattle.ledger.specs.Operations.{newLedger, step, reply}
 use Rattle.ledger.specs.Owner.{ownerStep, ownerReply}
@@ -21,7 +21,7 @@ use Rattle.records.specs.declared.SourceEntry.{SourceEntry}
 -- The source that stands under the number n with the entry e: it has a figure, on the safe side of its exact figure, with its gap below
 -- 1 + (13 × (F + 2) + 11 × U ÷ 10) ÷ 1,000,000 grams, "hence below 200 kilograms".
 pub record SourceSafe (s : Standing) (n : ℕ) (e : SourceEntry) (f : Figure) : Type 0 where
-  pub counted : sourceFigure (books s) (kept e (energyOf e)) ≡ given f
+  pub counted : sourceFigure (inputOfStanding s) (kept e (energyOf e)) ≡ given f
   pub fraction : 0 < exactFigure s (figuredAt n e f) .over
   pub safe : Conservative (direction (e .side)) (f .grams) (exactFigure s (figuredAt n e f)) (gapLimit (f .factor) (f .energy))
   pub gapBelow : gap s (figuredAt n e f) <ᵣ gapLimit (f .factor) (f .energy)
@@ -45,7 +45,7 @@ pub record ReportSafe (s : Standing) (r : Report) : Type 0 where
 
 -- "each report answers exactly what document 01 fixes for what stands at it", and so does every other call.
 pub record Claim (s : Standing) (c : Call) (a : Reply) : Type 0 where
-  pub answered : a ≡ answer (books s) c
+  pub answered : a ≡ answer (inputOfStanding s) c
   pub safe : (r : Report) → a ≡ reported r → ReportSafe s r
 
 -- "Demand 3 is one claim about the whole list, for every list": of the answers to a list of calls from a new ledger.

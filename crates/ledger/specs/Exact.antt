@@ -10,7 +10,7 @@ use Rattle.emissions.specs.declared.Side.{Side}
 use Rattle.emissions.specs.declared.Side.the-variants.{Project, Leakage, Baseline}
 use Rattle.records.specs.Judging.{metersOf}
 use Rattle.report.specs.Report.{sourcesOf, plantsOf, siteOf, Figured, Figures, declined, figured, figuresFrom, ofSide}
-use Rattle.ledger.specs.Standing.{Standing, books}
+use Rattle.ledger.specs.Standing.{Standing, inputOfStanding}
 use Rattle.records.specs.declared.SourceEntry.{SourceEntry}
 
 -- The exact energy e of the source under a number.
@@ -27,7 +27,7 @@ figuredAt n e f = record { number = n; side = e .side; figure = f }
 unfoldable pub exactFigure : Standing → Figured → Ratio
 exactFigure s f =
     exactGrams (exactEnergyOf (s .source (f .number))) (f .figure .loss)
-    (exactFactorOf (s .grid) (siteOf (plantsOf (books s))) (f .figure .choice))
+    (exactFactorOf (s .grid) (siteOf (plantsOf (inputOfStanding s))) (f .figure .choice))
 
 -- "its gap is the grams between the two".
 unfoldable pub gap : Standing → Figured → Ratio
@@ -39,7 +39,7 @@ listOf (declined n k) = []
 listOf (figured fs) = fs
 
 abbrev pub figuresOf : Standing → List Figured
-figuresOf s = listOf (figuresFrom (books s) (sourcesOf (books s)))
+figuresOf s = listOf (figuresFrom (inputOfStanding s) (sourcesOf (inputOfStanding s)))
 
 -- "The exact value of a side is the sum of the exact figures of its standing sources ÷ 1,000,000, in tonnes, and 0 where none stands."
 unfoldable pub exactSide : Standing → Side → Ratio

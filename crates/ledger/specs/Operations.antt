@@ -1,9 +1,9 @@
 -- The operations on the ledger's own records: what each leaves and answers. The contracts of the code equal these.
 use Prim.Native.Nat.{ℕ}
 use lib.ListN.{set, replicate}
-use Rattle.records.specs.Judging.{gridJudged, plantJudged, sourceJudged, isThere, dropJudged, whereGiven}
+use Rattle.records.specs.Judging.{lastPlant, lastSource, gridJudged, plantJudged, sourceJudged, isThere, dropJudged, whereGiven}
 use Rattle.records.specs.Records.{noGrid, noPlant, noSource, gridRecord, plantRecord, sourceRecord}
-use Rattle.report.specs.Report.{Books, Reply, booksOf, checkedReportOf}
+use Rattle.report.specs.Report.{ReportInput, Reply, inputOfRecords, checkedReportOf}
 use Rattle.ledger.specs.Standing.{Call, enterGrid, enterPlant, enterSource, dropPlant, dropSource, report, answer}
 use Rattle.records.specs.declared.GridRecord.{GridRecord}
 use Rattle.records.specs.declared.PlantRecord.{PlantRecord}
@@ -15,8 +15,8 @@ unfoldable pub newLedger : Ledger
 newLedger = record { grid = noGrid; plants = replicate 8 noPlant; sources = replicate 32 noSource }
 
 -- What a ledger's records show.
-abbrev pub recorded : Ledger → Books
-recorded l = booksOf (l .grid .grid) (l .plants) (l .sources)
+abbrev pub recorded : Ledger → ReportInput
+recorded l = inputOfRecords (l .grid .grid) (l .plants) (l .sources)
 
 -- The ledger with one record stored.
 abbrev pub withGrid : Ledger → GridRecord → Ledger
@@ -33,8 +33,8 @@ unfoldable pub step : Ledger → Call → Ledger
 step l (enterGrid g) = whereGiven (gridJudged g) (λ a. withGrid l (gridRecord a)) l
 step l (enterPlant n p) = whereGiven (plantJudged n p) (λ a. withPlant l n (plantRecord a)) l
 step l (enterSource n e) = whereGiven (sourceJudged n e) (λ a. withSource l n (sourceRecord a)) l
-step l (dropPlant n) = whereGiven (dropJudged 7 (isThere (recorded l .plant n)) n) (λ a. withPlant l n noPlant) l
-step l (dropSource n) = whereGiven (dropJudged 31 (isThere (recorded l .source n)) n) (λ a. withSource l n noSource) l
+step l (dropPlant n) = whereGiven (dropJudged lastPlant (isThere (recorded l .plant n)) n) (λ a. withPlant l n noPlant) l
+step l (dropSource n) = whereGiven (dropJudged lastSource (isThere (recorded l .source n)) n) (λ a. withSource l n noSource) l
 step l report = l
 
 -- The answer to a call; only a report looks whether the ledger is intact.

@@ -2,7 +2,7 @@
 -- kept of it, whatever the answer. What is kept and what is answered are as the contracts there say, and a report as `report_of` says.
 use Prim.Native.Nat.{ℕ, _%_}
 use lib.ListN.{getD}
-use Rattle.records.specs.Judging.{gridJudged, plantJudged, sourceJudged, dropJudged, whereGiven, answerOf}
+use Rattle.records.specs.Judging.{lastPlant, lastSource, gridJudged, plantJudged, sourceJudged, dropJudged, whereGiven, answerOf}
 use Rattle.records.specs.Records.{noPlant, noSource, gridRecord, plantRecord, sourceRecord}
 use Rattle.records.specs.declared.PlantRecord.{PlantRecord}
 use Rattle.records.specs.declared.SourceRecord.{SourceRecord}
@@ -24,8 +24,8 @@ unfoldable pub ownerStep : Ledger → Call → Ledger
 ownerStep l (enterGrid g) = withGrid l (whereGiven (gridJudged g) gridRecord (l .grid))
 ownerStep l (enterPlant n p) = withPlant l (n % 8) (whereGiven (plantJudged n p) plantRecord (plantAt l n))
 ownerStep l (enterSource n e) = withSource l (n % 32) (whereGiven (sourceJudged n e) sourceRecord (sourceAt l n))
-ownerStep l (dropPlant n) = withPlant l (n % 8) (whereGiven (dropJudged 7 (plantAt l n .stands) n) (λ a. noPlant) (plantAt l n))
-ownerStep l (dropSource n) = withSource l (n % 32) (whereGiven (dropJudged 31 (sourceAt l n .stands) n) (λ a. noSource) (sourceAt l n))
+ownerStep l (dropPlant n) = withPlant l (n % 8) (whereGiven (dropJudged lastPlant (plantAt l n .stands) n) (λ a. noPlant) (plantAt l n))
+ownerStep l (dropSource n) = withSource l (n % 32) (whereGiven (dropJudged lastSource (sourceAt l n .stands) n) (λ a. noSource) (sourceAt l n))
 ownerStep l report = l
 
 -- The answer to it.
@@ -33,6 +33,6 @@ unfoldable pub ownerReply : Ledger → Call → Reply
 ownerReply l (enterGrid g) = answerMeaning (answerOf (gridJudged g))
 ownerReply l (enterPlant n p) = answerMeaning (answerOf (plantJudged n p))
 ownerReply l (enterSource n e) = answerMeaning (answerOf (sourceJudged n e))
-ownerReply l (dropPlant n) = answerMeaning (answerOf (dropJudged 7 (plantAt l n .stands) n))
-ownerReply l (dropSource n) = answerMeaning (answerOf (dropJudged 31 (sourceAt l n .stands) n))
+ownerReply l (dropPlant n) = answerMeaning (answerOf (dropJudged lastPlant (plantAt l n .stands) n))
+ownerReply l (dropSource n) = answerMeaning (answerOf (dropJudged lastSource (sourceAt l n .stands) n))
 ownerReply l report = checkedReportOf (recorded l)

@@ -9,8 +9,8 @@ use Rattle.emissions.specs.Factor.{direction}
 use Rattle.emissions.specs.declared.GridEntry.{GridEntry}
 use Rattle.emissions.specs.declared.Grid.{Grid}
 use Rattle.emissions.specs.declared.Grid.the-variants.{Absent, Entered}
-use Rattle.records.specs.Judging.{gridJudged, plantJudged, metersOf, kept, sourceJudged, isThere, dropJudged, whereGiven}
-use Rattle.report.specs.Report.{Books, Reply, acknowledged, reportOf}
+use Rattle.records.specs.Judging.{lastPlant, lastSource, gridJudged, plantJudged, metersOf, kept, sourceJudged, isThere, dropJudged, whereGiven}
+use Rattle.report.specs.Report.{ReportInput, Reply, acknowledged, reportOf}
 use Rattle.records.specs.declared.Plant.{Plant}
 use Rattle.records.specs.declared.SourceEntry.{SourceEntry}
 use Rattle.records.specs.declared.Source.{Source}
@@ -45,8 +45,8 @@ unfoldable pub after : Standing → Call → Standing
 after s (enterGrid g) = whereGiven (gridJudged g) (λ a. record { grid = Entered g; plant = s .plant; source = s .source }) s
 after s (enterPlant n p) = whereGiven (plantJudged n p) (λ a. record { grid = s .grid; plant = put (s .plant) n (some p); source = s .source }) s
 after s (enterSource n e) = whereGiven (sourceJudged n e) (λ a. record { grid = s .grid; plant = s .plant; source = put (s .source) n (some e) }) s
-after s (dropPlant n) = whereGiven (dropJudged 7 (isThere (s .plant n)) n) (λ a. record { grid = s .grid; plant = put (s .plant) n none; source = s .source }) s
-after s (dropSource n) = whereGiven (dropJudged 31 (isThere (s .source n)) n) (λ a. record { grid = s .grid; plant = s .plant; source = put (s .source) n none }) s
+after s (dropPlant n) = whereGiven (dropJudged lastPlant (isThere (s .plant n)) n) (λ a. record { grid = s .grid; plant = put (s .plant) n none; source = s .source }) s
+after s (dropSource n) = whereGiven (dropJudged lastSource (isThere (s .source n)) n) (λ a. record { grid = s .grid; plant = s .plant; source = put (s .source) n none }) s
 after s report = s
 
 -- E of an entry that stands: the signed sum of its rounded readings.
@@ -58,14 +58,14 @@ keptOf none = none
 keptOf (some e) = some (kept e (energyOf e))
 
 -- What a report reads of what stands.
-abbrev pub books : Standing → Books
-books s = record { grid = s .grid; plant = s .plant; source = λ n. keptOf (s .source n) }
+abbrev pub inputOfStanding : Standing → ReportInput
+inputOfStanding s = record { grid = s .grid; plant = s .plant; source = λ n. keptOf (s .source n) }
 
 -- The answer that the rules fix for each call.
-unfoldable pub answer : Books → Call → Reply
-answer b (enterGrid g) = acknowledged (gridJudged g)
-answer b (enterPlant n p) = acknowledged (plantJudged n p)
-answer b (enterSource n e) = acknowledged (sourceJudged n e)
-answer b (dropPlant n) = acknowledged (dropJudged 7 (isThere (b .plant n)) n)
-answer b (dropSource n) = acknowledged (dropJudged 31 (isThere (b .source n)) n)
-answer b report = reportOf b
+unfoldable pub answer : ReportInput → Call → Reply
+answer input (enterGrid g) = acknowledged (gridJudged g)
+answer input (enterPlant n p) = acknowledged (plantJudged n p)
+answer input (enterSource n e) = acknowledged (sourceJudged n e)
+answer input (dropPlant n) = acknowledged (dropJudged lastPlant (isThere (input .plant n)) n)
+answer input (dropSource n) = acknowledged (dropJudged lastSource (isThere (input .source n)) n)
+answer input report = reportOf input

@@ -11,18 +11,19 @@ use records::Answer;
 use records::GridRecord;
 use records::Plant;
 use records::PlantRecord;
+use records::Source;
 use records::SourceEntry;
 use records::SourceRecord;
 use report::Reported;
 
 pub struct Ledger {
     pub grid: GridRecord,
-    pub plants: [PlantRecord; 8],
-    pub sources: [SourceRecord; 32],
+    pub plants: [PlantRecord; Plant::PLACES],
+    pub sources: [SourceRecord; Source::PLACES],
 }
 
 // The ledger that an entry or a drop leaves, with its answer.
-pub struct Entered {
+pub struct LedgerKept {
     pub ledger: Ledger,
     pub answer: Answer,
 }
@@ -37,13 +38,13 @@ impl Ledger {
         let source = SourceRecord::empty();
         Ledger {
             grid,
-            plants: [plant; 8],
-            sources: [source; 32],
+            plants: [plant; Plant::PLACES],
+            sources: [source; Source::PLACES],
         }
     }
 
     // Enters the grid, in place of an older entry (document 01, "Grid entry").
-    pub fn enter_grid(mut self, entry: GridEntry) -> Entered
+    pub fn enter_grid(mut self, entry: GridEntry) -> LedgerKept
         ensures ledger { λ r. ⌜ r .ledger ≡ step self (enterGrid entry) ⌝ }
         ensures answer { λ r. ⌜ answerMeaning (r .answer) ≡ reply self (enterGrid entry) ⌝ }
     {
@@ -52,75 +53,75 @@ impl Ledger {
         let kept = done.kept;
         let answer = done.answer;
         self.grid = kept;
-        Entered {
+        LedgerKept {
             ledger: self,
             answer,
         }
     }
 
     // Enters a plant under its number, in place of an older one (document 01, "Plant entry").
-    pub fn enter_plant(mut self, number: u8, plant: Plant) -> Entered
+    pub fn enter_plant(mut self, number: u8, plant: Plant) -> LedgerKept
         ensures ledger { λ r. ⌜ r .ledger ≡ step self (enterPlant number plant) ⌝ }
         ensures answer { λ r. ⌜ answerMeaning (r .answer) ≡ reply self (enterPlant number plant) ⌝ }
     {
-        let at = (number % 8) as usize;
+        let at = (number % Plant::NUMBERS) as usize;
         let held = self.plants[at];
         let done = held.entered(number, plant);
         let kept = done.kept;
         let answer = done.answer;
         self.plants[at] = kept;
-        Entered {
+        LedgerKept {
             ledger: self,
             answer,
         }
     }
 
     // Enters a source under its number, in place of an older one (document 01, "Source entry").
-    pub fn enter_source(mut self, number: u8, entry: SourceEntry) -> Entered
+    pub fn enter_source(mut self, number: u8, entry: SourceEntry) -> LedgerKept
         ensures ledger { λ r. ⌜ r .ledger ≡ step self (enterSource number entry) ⌝ }
         ensures answer { λ r. ⌜ answerMeaning (r .answer) ≡ reply self (enterSource number entry) ⌝ }
     {
-        let at = (number % 32) as usize;
+        let at = (number % Source::NUMBERS) as usize;
         let held = self.sources[at];
         let done = held.entered(number, entry);
         let kept = done.kept;
         let answer = done.answer;
         self.sources[at] = kept;
-        Entered {
+        LedgerKept {
             ledger: self,
             answer,
         }
     }
 
     // Takes the plant under a number away (document 01, "Drop").
-    pub fn drop_plant(mut self, number: u8) -> Entered
+    pub fn drop_plant(mut self, number: u8) -> LedgerKept
         ensures ledger { λ r. ⌜ r .ledger ≡ step self (dropPlant number) ⌝ }
         ensures answer { λ r. ⌜ answerMeaning (r .answer) ≡ reply self (dropPlant number) ⌝ }
     {
-        let at = (number % 8) as usize;
+        let at = (number % Plant::NUMBERS) as usize;
         let held = self.plants[at];
         let done = held.dropped(number);
         let kept = done.kept;
         let answer = done.answer;
         self.plants[at] = kept;
-        Entered {
+        LedgerKept {
             ledger: self,
             answer,
         }
     }
 
     // Takes the source under a number away (document 01, "Drop").
-    pub fn drop_source(mut self, number: u8) -> Entered
+    pub fn drop_source(mut self, number: u8) -> LedgerKept
         ensures ledger { λ r. ⌜ r .ledger ≡ step self (dropSource number) ⌝ }
         ensures answer { λ r. ⌜ answerMeaning (r .answer) ≡ reply self (dropSource number) ⌝ }
     {
-        let at = (number % 32) as usize;
+        let at = (number % Source::NUMBERS) as usize;
         let held = self.sources[at];
         let done = held.dropped(number);
         let kept = done.kept;
         let answer = done.answer;
         self.sources[at] = kept;
-        Entered {
+        LedgerKept {
             ledger: self,
             answer,
         }

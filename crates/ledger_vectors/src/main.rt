@@ -21,7 +21,7 @@ use emissions::Loss;
 use emissions::Side;
 use emissions::Supply;
 use fuel::FuelLine;
-use ledger::Entered;
+use ledger::LedgerKept;
 use ledger::Ledger;
 use libc::STDOUT_FILENO;
 use records::Answer;
@@ -157,8 +157,8 @@ fn with_source(mut ledger: Ledger, line: &[u8]) -> Ledger {
 }
 
 // Answers an entry or a drop, and hands on the ledger that it left.
-fn answered(entered: Entered) -> Ledger {
-    let answer = entered.answer;
+fn answered(kept: LedgerKept) -> Ledger {
+    let answer = kept.answer;
     match answer {
         Answer::Accepted => {
             io::write_all(STDOUT_FILENO, b"ok\n");
@@ -167,7 +167,7 @@ fn answered(entered: Entered) -> Ledger {
             vectors::write_refused(number);
         }
     }
-    entered.ledger
+    kept.ledger
 }
 
 fn write_side(name: &[u8], side: SideReport) {

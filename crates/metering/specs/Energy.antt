@@ -85,9 +85,13 @@ judgedReadings dir ms =
     (cond (anyMeter runsBack ms) (metersJudged.Refused 4)
     (metersJudged.Read (roundedAdding dir ms) (roundedTaking dir ms)))
 
+-- "A source has 1 to 4 meters."
+abbrev pub metersLimit : ℕ
+metersLimit = 4
+
 -- "2 meters not 1 to 4"; the source's meters are the first `count` ones.
 unfoldable pub judgedMeters : Direction → ℕ → List Meter → MetersJudged
-judgedMeters dir count ms = cond (leb 1 count && leb count 4) (judgedReadings dir (take count ms)) (metersJudged.Refused 2)
+judgedMeters dir count ms = cond (leb 1 count && leb count metersLimit) (judgedReadings dir (take count ms)) (metersJudged.Refused 2)
 
 -- "The signed sum of these is E, in Wh, accepted from 0 to 100,000,000,000"; "6 E below 0 or above its limit".
 unfoldable pub settledEnergy : ℕ → ℕ → EnergyJudged

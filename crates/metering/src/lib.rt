@@ -19,6 +19,7 @@ ghost use Rattle.metering.specs.Energy.{
   metersRefusal,
   energyRefusal,
   noMeter,
+  metersLimit,
 };
 ghost use Rattle.metering.specs.Steps.{magnitude, roundedBothWays, meterRead, metersRead};
 use rounding::Direction;
@@ -55,6 +56,13 @@ pub enum Interval {
 pub struct Meter {
     pub sign: Sign,
     pub interval: Interval,
+}
+
+impl Meter {
+    // The most meters of a source, and the places for them in an entry.
+    pub const LIMIT: u8 = 4;
+
+    pub const PLACES: usize = Meter::LIMIT as usize;
 }
 
 // A reading in whole watt-hours, or that it is refused (number 3).
@@ -294,8 +302,8 @@ fn read_meter(meter: Meter, direction: Direction) -> MeterRead
 
 // The first `count` meters together. A meter that runs back does not end the loop: number 3 is tested
 // over all meters before number 4.
-fn read_meters(meters: [Meter; 4], count: usize, direction: Direction) -> MeterRead
-    requires { ⌜ count ≤ 4 ⌝ }
+fn read_meters(meters: [Meter; Meter::PLACES], count: usize, direction: Direction) -> MeterRead
+    requires { ⌜ count ≤ metersLimit ⌝ }
     ensures { λ r. ⌜ r ≡ metersRead direction (take count meters) ⌝ }
 {
     let mut adds: u64 = 0;
@@ -317,13 +325,13 @@ fn read_meters(meters: [Meter; 4], count: usize, direction: Direction) -> MeterR
 
 // The rounded readings of a source's meters, the first `count` of the four, or the first refusal of 2, 3
 // and 4 that is due (document 01, "Source entry").
-pub fn judge_meters(meters: [Meter; 4], count: u8, direction: Direction) -> MetersJudged
+pub fn judge_meters(meters: [Meter; Meter::PLACES], count: u8, direction: Direction) -> MetersJudged
     ensures { λ r. ⌜ r ≡ judgedMeters direction count meters ⌝ }
 {
     if count == 0 {
         return MetersJudged::Refused(2);
     }
-    if count > 4 {
+    if count > Meter::LIMIT {
         return MetersJudged::Refused(2);
     }
     let MeterRead::Moved(adds, takes, back) = read_meters(meters, count as usize, direction) else {

@@ -17,7 +17,7 @@ use Rattle.metering.specs.declared.EnergyJudged.{EnergyJudged}
 use Rattle.fuel.specs.Fuel.{withinLimits}
 use Rattle.fuel.specs.declared.FuelLine.{FuelLine}
 use Rattle.emissions.specs.Factor.{direction}
-use Rattle.records.specs.Judging.{linesOf, allWithinLimits, plantJudged, siteFits, lossFits, lossMatches, onRead, onEnergy, kept, sourceJudged, answerOf}
+use Rattle.records.specs.Judging.{linesOf, allWithinLimits, plantJudged, supplyWithinLimits, lossWithinLimits, lossMatches, onRead, onEnergy, kept, sourceJudged, answerOf}
 use Rattle.records.specs.declared.Answer.the-variants.{Accepted, Refused}
 use Rattle.records.specs.declared.Plant.{Plant}
 use Rattle.records.specs.declared.SourceEntry.{SourceEntry}
@@ -114,16 +114,16 @@ module _ (n : ℕ) (e : SourceEntry) where
   source-number h = rw (lt-leb n 31 h)
 
   module _ (h : n ≤ 31) where
-    pub source-site : siteFits (e .supply) ≡ false → sourceJudged n e ≡ refused 1
+    pub source-site : supplyWithinLimits (e .supply) ≡ false → sourceJudged n e ≡ refused 1
     unfolding sourceJudged
     source-site s = rw (le-leb n 31 h, s)
 
-    module _ (s : siteFits (e .supply) ≡ true) where
-      pub source-loss : lossFits (e .loss) ≡ false → sourceJudged n e ≡ refused 2
+    module _ (s : supplyWithinLimits (e .supply) ≡ true) where
+      pub source-loss : lossWithinLimits (e .loss) ≡ false → sourceJudged n e ≡ refused 2
       unfolding sourceJudged
       source-loss t = rw (le-leb n 31 h, s, t)
 
-      pub source-sums : lossFits (e .loss) ≡ true → (j : MetersJudged) → judgedMeters (direction (e .side)) (e .count) (e .meters) ≡ j
+      pub source-sums : lossWithinLimits (e .loss) ≡ true → (j : MetersJudged) → judgedMeters (direction (e .side)) (e .count) (e .meters) ≡ j
           → sourceJudged n e ≡ summed e j
       unfolding sourceJudged
       source-sums t j r = rw (le-leb n 31 h, s, t, r)

@@ -15,6 +15,7 @@ use Rattle.metering.specs.declared.EnergyJudged.the-variants as energyJudged
 use Rattle.fuel.specs.Fuel.{withinLimits}
 use Rattle.fuel.specs.declared.FuelLine.{FuelLine}
 use Rattle.emissions.specs.Factor.{factorLimit, direction}
+use Rattle.emissions.specs.Figure.{lossLimit}
 use Rattle.emissions.specs.declared.GridEntry.{GridEntry}
 use Rattle.emissions.specs.declared.Supply.{Supply}
 use Rattle.emissions.specs.declared.Supply.the-variants.{Combined, GridDefault, Captive, CaptiveDefault, Either}
@@ -26,12 +27,29 @@ use Rattle.records.specs.declared.Source.{Source}
 use Rattle.records.specs.declared.Answer.{Answer}
 use Rattle.records.specs.declared.Answer.the-variants.{Accepted, Refused}
 
+-- ---- "Sources are numbered 0 to 31, plants 0 to 7, sites 0 to 3."
+
+abbrev pub lastPlant : ℕ
+lastPlant = 7
+
+abbrev pub lastSource : ℕ
+lastSource = 31
+
+abbrev pub lastSite : ℕ
+lastSite = 3
+
 -- ---- "Grid entry: 2 factor above 10,000,000."
 
 unfoldable pub gridJudged : GridEntry → Outcome GridEntry
 gridJudged g = refuseUnless 2 (leb (g .margin) factorLimit) (given g)
 
 -- ---- "Plant entry: 1 plant above 7 or site above 3. 2 more than 4 fuel lines, generation above 100,000,000 kWh, Q .. V .. or C .."
+
+abbrev pub linesLimit : ℕ
+linesLimit = 4
+
+abbrev pub generationLimit : ℕ
+generationLimit = 100000000
 
 -- The plant's fuel lines: the first `count` ones.
 unfoldable pub linesOf : Plant → List FuelLine
@@ -43,26 +61,26 @@ allWithinLimits (l ∷ ls) = withinLimits l && allWithinLimits ls
 
 unfoldable pub plantJudged : ℕ → Plant → Outcome Plant
 plantJudged number p =
-    refuseUnless 1 (leb number 7 && leb (p .site) 3)
-    (refuseUnless 2 (leb (p .count) 4 && leb (p .generation) 100000000 && allWithinLimits (linesOf p))
+    refuseUnless 1 (leb number lastPlant && leb (p .site) lastSite)
+    (refuseUnless 2 (leb (p .count) linesLimit && leb (p .generation) generationLimit && allWithinLimits (linesOf p))
     (given p))
 
 -- ---- "Source entry: 1 source above 31 or site above 3. 2 meters not 1 to 4, or measured loss above 5,000. 3 .. 4 .. 5 .. 6 .."
 
 -- The site that a supply names is at most 3.
-abbrev pub siteFits : Supply → Bool
-siteFits Combined = true
-siteFits GridDefault = true
-siteFits (Captive S) = leb S 3
-siteFits CaptiveDefault = true
-siteFits (Either S) = leb S 3
+abbrev pub supplyWithinLimits : Supply → Bool
+supplyWithinLimits Combined = true
+supplyWithinLimits GridDefault = true
+supplyWithinLimits (Captive S) = leb S lastSite
+supplyWithinLimits CaptiveDefault = true
+supplyWithinLimits (Either S) = leb S lastSite
 
 -- A measured loss is at most 5,000.
-abbrev pub lossFits : Loss → Bool
-lossFits Nothing = true
-lossFits (Measured T) = leb T 5000
-lossFits Default20 = true
-lossFits Default3 = true
+abbrev pub lossWithinLimits : Loss → Bool
+lossWithinLimits Nothing = true
+lossWithinLimits (Measured T) = leb T lossLimit
+lossWithinLimits Default20 = true
+lossWithinLimits Default3 = true
 
 abbrev pub isNothing : Loss → Bool
 isNothing Nothing = true
@@ -104,8 +122,8 @@ kept e E = record { side = e .side; supply = e .supply; loss = e .loss; energy =
 -- Numbers 2, 3 and 4 of the meters and number 6 are those of the crate `metering`.
 unfoldable pub sourceJudged : ℕ → SourceEntry → Outcome Source
 sourceJudged number e =
-    refuseUnless 1 (leb number 31 && siteFits (e .supply))
-    (refuseUnless 2 (lossFits (e .loss))
+    refuseUnless 1 (leb number lastSource && supplyWithinLimits (e .supply))
+    (refuseUnless 2 (lossWithinLimits (e .loss))
     (onRead (judgedMeters (direction (e .side)) (e .count) (e .meters)) (λ adds takes.
     refuseUnless 5 (lossMatches (e .supply) (e .loss))
     (onEnergy (settledEnergy adds takes) (λ E.

@@ -4,7 +4,7 @@
 ghost use mathlib.Core.Path.{_≡_};
 ghost use Prim.Native.Nat.{_≤_};
 ghost use lib.ListN.{take};
-ghost use Rattle.records.specs.Judging.{answerOf, gridJudged, allWithinLimits, plantJudged, siteFits, lossFits, isNothing, lossMatches, sourceJudged, dropJudged, whereGiven};
+ghost use Rattle.records.specs.Judging.{lastPlant, lastSource, linesLimit, answerOf, gridJudged, allWithinLimits, plantJudged, supplyWithinLimits, lossWithinLimits, isNothing, lossMatches, sourceJudged, dropJudged, whereGiven};
 ghost use Rattle.records.specs.Records.{noGrid, noPlant, noSource, gridRecord, plantRecord, sourceRecord, heldPlant, heldSource};
 ghost use Rattle.records.specs.Steps.{sourceMeaning};
 use emissions::Grid;
@@ -23,7 +23,7 @@ pub struct Plant {
     pub site: u8,
     pub count: u8,
     pub generation: u32,
-    pub lines: [FuelLine; 4],
+    pub lines: [FuelLine; Plant::LINE_PLACES],
 }
 
 // A source as entered: its meters are the first `count` of the four.
@@ -32,7 +32,7 @@ pub struct SourceEntry {
     pub count: u8,
     pub supply: Supply,
     pub loss: Loss,
-    pub meters: [Meter; 4],
+    pub meters: [Meter; Meter::PLACES],
 }
 
 // A source as kept: its energy E in watt-hours in place of its meters.
@@ -55,7 +55,7 @@ pub struct PlantRecord {
     pub site: u8,
     pub count: u8,
     pub generation: u32,
-    pub lines: [FuelLine; 4],
+    pub lines: [FuelLine; Plant::LINE_PLACES],
 }
 
 pub struct SourceRecord {
@@ -95,11 +95,19 @@ enum SourceJudged {
 }
 
 impl Plant {
+    // The last number of a plant, how many numbers there are, and the places for them in a ledger.
     pub const LAST: u8 = 7;
+
+    pub const NUMBERS: u8 = Plant::LAST + 1;
+
+    pub const PLACES: usize = Plant::NUMBERS as usize;
 
     pub const SITE_LIMIT: u8 = 3;
 
+    // The most fuel lines, and the places for them in an entry.
     pub const LINES_LIMIT: u8 = 4;
+
+    pub const LINE_PLACES: usize = Plant::LINES_LIMIT as usize;
 
     pub const GENERATION_LIMIT: u32 = 100_000_000;
 
@@ -129,8 +137,8 @@ impl Plant {
 }
 
 // Whether the first `count` fuel lines are within their limits.
-fn are_within_limits(lines: [FuelLine; 4], count: usize) -> bool
-    requires { ⌜ count ≤ 4 ⌝ }
+fn are_within_limits(lines: [FuelLine; Plant::LINE_PLACES], count: usize) -> bool
+    requires { ⌜ count ≤ linesLimit ⌝ }
     ensures { λ r. ⌜ r ≡ allWithinLimits (take count lines) ⌝ }
 {
     let mut i = 0;
@@ -146,8 +154,8 @@ fn are_within_limits(lines: [FuelLine; 4], count: usize) -> bool
 }
 
 // Whether the site that a supply names, if it names one, is in range.
-pub fn has_site(supply: Supply) -> bool
-    ensures { λ r. ⌜ r ≡ siteFits supply ⌝ }
+pub fn supply_is_within_limits(supply: Supply) -> bool
+    ensures { λ r. ⌜ r ≡ supplyWithinLimits supply ⌝ }
 {
     match supply {
         Supply::Combined => true,
@@ -159,8 +167,8 @@ pub fn has_site(supply: Supply) -> bool
 }
 
 // Whether a measured loss is within its limit.
-pub fn has_loss(loss: Loss) -> bool
-    ensures { λ r. ⌜ r ≡ lossFits loss ⌝ }
+pub fn loss_is_within_limits(loss: Loss) -> bool
+    ensures { λ r. ⌜ r ≡ lossWithinLimits loss ⌝ }
 {
     match loss {
         Loss::Nothing => true,
@@ -206,10 +214,10 @@ impl SourceEntry {
         if number > Source::LAST {
             return SourceJudged::Refused(1);
         }
-        if has_site(supply) == false {
+        if supply_is_within_limits(supply) == false {
             return SourceJudged::Refused(1);
         }
-        if has_loss(loss) == false {
+        if loss_is_within_limits(loss) == false {
             return SourceJudged::Refused(2);
         }
         let meters = self.meters;
@@ -234,7 +242,12 @@ impl SourceEntry {
 }
 
 impl Source {
+    // The last number of a source, how many numbers there are, and the places for them in a ledger.
     pub const LAST: u8 = 31;
+
+    pub const NUMBERS: u8 = Source::LAST + 1;
+
+    pub const PLACES: usize = Source::NUMBERS as usize;
 }
 
 impl SourceJudged {
@@ -299,7 +312,7 @@ impl PlantRecord {
             site: 0,
             count: 0,
             generation: 0,
-            lines: [line; 4],
+            lines: [line; Plant::LINE_PLACES],
         }
     }
 
@@ -348,8 +361,8 @@ impl PlantRecord {
 
     // What a drop under the number leaves in the record there, and its answer (document 01, "Drop").
     pub fn dropped(self, number: u8) -> PlantKept
-        ensures kept { λ r. ⌜ r .kept ≡ whereGiven (dropJudged 7 (self .stands) number) (λ a. noPlant) self ⌝ }
-        ensures answer { λ r. ⌜ r .answer ≡ answerOf (dropJudged 7 (self .stands) number) ⌝ }
+        ensures kept { λ r. ⌜ r .kept ≡ whereGiven (dropJudged lastPlant (self .stands) number) (λ a. noPlant) self ⌝ }
+        ensures answer { λ r. ⌜ r .answer ≡ answerOf (dropJudged lastPlant (self .stands) number) ⌝ }
     {
         let answer = judged_drop(Plant::LAST, self.stands, number);
         let Answer::Accepted = answer else {
@@ -427,8 +440,8 @@ impl SourceRecord {
 
     // What a drop under the number leaves in the record there, and its answer (document 01, "Drop").
     pub fn dropped(self, number: u8) -> SourceKept
-        ensures kept { λ r. ⌜ r .kept ≡ whereGiven (dropJudged 31 (self .stands) number) (λ a. noSource) self ⌝ }
-        ensures answer { λ r. ⌜ r .answer ≡ answerOf (dropJudged 31 (self .stands) number) ⌝ }
+        ensures kept { λ r. ⌜ r .kept ≡ whereGiven (dropJudged lastSource (self .stands) number) (λ a. noSource) self ⌝ }
+        ensures answer { λ r. ⌜ r .answer ≡ answerOf (dropJudged lastSource (self .stands) number) ⌝ }
     {
         let answer = judged_drop(Source::LAST, self.stands, number);
         let Answer::Accepted = answer else {

@@ -10,7 +10,7 @@ use native.Mathlib.Omega.{arith}
 use native.Mathlib.Nat.{eq-or-lt-of-le}
 use lib.ListN.{length}
 use Rattle.rounding.proofs.Ratio.{All}
-use Rattle.report.specs.Report.{Numbered, listed, standing, those}
+use Rattle.report.specs.Report.{Numbered, prependStanding, standing, selected}
 
 abbrev pub numbered : {A : Type 0} → ℕ → A → Numbered A
 numbered n a = record { number = n; item = a }
@@ -20,17 +20,17 @@ never-some {a} e = Option·none-ne-some a e
 
 module _ {A : Type 0} (P : Numbered A → Type 0) where
   -- An item before a list, where one stands.
-  listed-all : (n : ℕ) (o : Option A) (l : List (Numbered A)) → ((a : A) → o ≡ some a → P (numbered n a)) → All P l → All P (listed n o l)
-  listed-all n none l h k = k
-  listed-all n (some a) l h k = (h a refl, k)
+  prepend-all : (n : ℕ) (o : Option A) (l : List (Numbered A)) → ((a : A) → o ≡ some a → P (numbered n a)) → All P l → All P (prependStanding n o l)
+  prepend-all n none l h k = k
+  prepend-all n (some a) l h k = (h a refl, k)
 
-  listed-here : (n : ℕ) (a : A) (o : Option A) (l : List (Numbered A)) → o ≡ some a → All P (listed n o l) → P (numbered n a)
-  listed-here n a none l e k = absurd (never-some e)
-  listed-here n a (some b) l e k = subst (λ (x : A). P (numbered n x)) (Option·some-injective b a e) (k .0)
+  prepend-here : (n : ℕ) (a : A) (o : Option A) (l : List (Numbered A)) → o ≡ some a → All P (prependStanding n o l) → P (numbered n a)
+  prepend-here n a none l e k = absurd (never-some e)
+  prepend-here n a (some b) l e k = subst (λ (x : A). P (numbered n x)) (Option·some-injective b a e) (k .0)
 
-  listed-rest : (n : ℕ) (o : Option A) (l : List (Numbered A)) → All P (listed n o l) → All P l
-  listed-rest n none l k = k
-  listed-rest n (some b) l k = k .1
+  prepend-rest : (n : ℕ) (o : Option A) (l : List (Numbered A)) → All P (prependStanding n o l) → All P l
+  prepend-rest n none l k = k
+  prepend-rest n (some b) l k = k .1
 
 module _ {A : Type 0} (place : ℕ → Option A) (P : Numbered A → Type 0) where
   -- What holds of each item that stands holds of the list of them,
@@ -38,7 +38,7 @@ module _ {A : Type 0} (place : ℕ → Option A) (P : Numbered A → Type 0) whe
   unfolding standing
   standing-all h from zero = tt
   standing-all h from (suc count) =
-      listed-all P from (place from) (standing place (suc from) count) (h from) (standing-all h (suc from) count)
+      prepend-all P from (place from) (standing place (suc from) count) (h from) (standing-all h (suc from) count)
 
   -- and back.
   pub standing-at : (from count : ℕ) → All P (standing place from count) → (n : ℕ) (a : A) → place n ≡ some a → from ≤ n → n < from + count
@@ -50,8 +50,8 @@ module _ {A : Type 0} (place : ℕ → Option A) (P : Numbered A → Type 0) whe
       none-there l u = omega arith
   standing-at from (suc count) h n a e l u = elim (eq-or-lt-of-le l) [
     | inl z ↦ subst (λ (i : ℕ). P (numbered i a)) z
-        (listed-here P from a (place from) (standing place (suc from) count) (subst (λ (i : ℕ). place i ≡ some a) (sym z) e) h)
-    | inr k ↦ standing-at (suc from) count (listed-rest P from (place from) (standing place (suc from) count) h) n a e k (omega arith)
+        (prepend-here P from a (place from) (standing place (suc from) count) (subst (λ (i : ℕ). place i ≡ some a) (sym z) e) h)
+    | inr k ↦ standing-at (suc from) count (prepend-rest P from (place from) (standing place (suc from) count) h) n a e k (omega arith)
   ]
 
 -- Under some numbers stands no more than there are numbers.
@@ -60,27 +60,27 @@ unfolding standing
 standing-length place from zero = omega arith
 standing-length {A} place from (suc count) = go (place from) (standing-length place (suc from) count)
   where
-    go : (o : Option A) → length (standing place (suc from) count) ≤ count → length (listed from o (standing place (suc from) count)) ≤ suc count
+    go : (o : Option A) → length (standing place (suc from) count) ≤ count → length (prependStanding from o (standing place (suc from) count)) ≤ suc count
     go none k = omega arith
     go (some a) k = omega arith
 
 -- What holds of a list holds of those that pass a test, and they pass it.
-pub those-all : {A : Type 0} (P : A → Type 0) (p : A → Bool) (xs : List A) → All P xs → All (λ (x : A). P x × (p x ≡ true)) (those p xs)
-unfolding those
-those-all P p [] h = tt
-those-all {A} P p (x ∷ xs) h = go (p x) refl (those-all P p xs (h .1))
+pub selected-all : {A : Type 0} (P : A → Type 0) (p : A → Bool) (xs : List A) → All P xs → All (λ (x : A). P x × (p x ≡ true)) (selected p xs)
+unfolding selected
+selected-all P p [] h = tt
+selected-all {A} P p (x ∷ xs) h = go (p x) refl (selected-all P p xs (h .1))
   where
-    go : (t : Bool) → p x ≡ t → All (λ (y : A). P y × (p y ≡ true)) (those p xs)
-        → All (λ (y : A). P y × (p y ≡ true)) (cond t (x ∷ those p xs) (those p xs))
+    go : (t : Bool) → p x ≡ t → All (λ (y : A). P y × (p y ≡ true)) (selected p xs)
+        → All (λ (y : A). P y × (p y ≡ true)) (cond t (x ∷ selected p xs) (selected p xs))
     go true e k = ((h .0, e), k)
     go false e k = k
 
 -- They are no more than the list.
-pub those-length : {A : Type 0} (p : A → Bool) (xs : List A) → length (those p xs) ≤ length xs
-unfolding those
-those-length p [] = omega arith
-those-length {A} p (x ∷ xs) = go (p x) (those-length p xs)
+pub selected-length : {A : Type 0} (p : A → Bool) (xs : List A) → length (selected p xs) ≤ length xs
+unfolding selected
+selected-length p [] = omega arith
+selected-length {A} p (x ∷ xs) = go (p x) (selected-length p xs)
   where
-    go : (t : Bool) → length (those p xs) ≤ length xs → length (cond t (x ∷ those p xs) (those p xs)) ≤ suc (length xs)
+    go : (t : Bool) → length (selected p xs) ≤ length xs → length (cond t (x ∷ selected p xs) (selected p xs)) ≤ suc (length xs)
     go true k = omega arith
     go false k = omega arith

@@ -12,10 +12,10 @@ use Rattle.fuel.specs.Fuel.{exactMilligrams, roundedMilligrams}
 use Rattle.fuel.specs.declared.FuelLine.{FuelLine}
 use Rattle.fuel.proofs.Fuel.{line-over, line-conservative}
 use Rattle.emissions.proofs.Factors.{SiteSound}
-use Rattle.report.specs.Report.{PlainPlant, plainOf, Numbered, plainAt, plantsIn, those, plantMilligrams, exactPlant, plantsAt, siteOf}
+use Rattle.report.specs.Report.{PlainPlant, plainOf, Numbered, plainAt, plantsIn, selected, plantMilligrams, exactPlant, plantsAt, siteOf}
 use Rattle.records.specs.Judging.{linesOf}
 use Rattle.records.specs.declared.Plant.{Plant}
-use Rattle.report.proofs.Lists.{never-some, standing-all, standing-length, those-all, those-length}
+use Rattle.report.proofs.Lists.{never-some, standing-all, standing-length, selected-all, selected-length}
 
 -- ---- a plant
 
@@ -50,11 +50,11 @@ plant-unsigned p = sum-unsigned exactMilligrams (p .lines) (all-of line-unsigned
 -- So with the plants at a site: no more than stand, and what holds of all that stand holds of them.
 at-site-length : (S : ℕ) (xs : List (Numbered PlainPlant)) → length (plantsAt S xs) ≤ length xs
 unfolding plantsAt
-at-site-length S xs = simp length-map (those-length _ xs)
+at-site-length S xs = simp length-map (selected-length _ xs)
 
 at-site : (P : PlainPlant → Type 0) (S : ℕ) (xs : List (Numbered PlainPlant)) → All (λ (x : Numbered PlainPlant). P (x .item)) xs → All P (plantsAt S xs)
 unfolding plantsAt
-at-site P S xs h = all-map P _ (those _ xs) (all-then (λ x k. k .0) (those _ xs) (those-all (λ (x : Numbered PlainPlant). P (x .item)) _ xs h))
+at-site P S xs h = all-map P _ (selected _ xs) (all-then (λ x k. k .0) (selected _ xs) (selected-all (λ (x : Numbered PlainPlant). P (x .item)) _ xs h))
 
 -- What is read of a plant that stands.
 read-sound : (o : Option Plant) → ((p : Plant) → o ≡ some p → PlantSound (plainOf p)) → (p : PlainPlant) → Option·map plainOf o ≡ some p → PlantSound p

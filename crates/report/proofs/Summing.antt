@@ -26,11 +26,11 @@ use Rattle.emissions.specs.declared.Consumption.{Consumption}
 use Rattle.emissions.specs.declared.Side.{Side}
 use Rattle.emissions.specs.declared.Supply.{Supply}
 use Rattle.rounding.proofs.Outcomes.{test-held}
-use Rattle.report.specs.Report.{PlainPlant, plainOf, Numbered, listed, standing, plainAt, those, consumption, plantsAt}
-use Rattle.records.specs.Judging.{siteFits, lossFits, lossMatches, linesOf, allWithinLimits, plantJudged}
+use Rattle.report.specs.Report.{PlainPlant, plainOf, Numbered, prependStanding, standing, plainAt, selected, consumption, plantsAt}
+use Rattle.records.specs.Judging.{supplyWithinLimits, lossWithinLimits, lossMatches, linesOf, allWithinLimits, plantJudged}
 use Rattle.records.specs.Records.{noPlant, noSource, plantIn, sourceIn, plantPlace, sourcePlace}
 use Rattle.report.specs.Intact.{isGiven, plantIntact, sourceIntact, allIntact}
-use Rattle.report.specs.Steps.{ofDirection, share, joined, Small, withShare, addedAt}
+use Rattle.report.specs.Steps.{ofDirection, share, summed, ConsumptionWithin, withShare, addedAt}
 use Rattle.records.specs.declared.Plant.{Plant}
 use Rattle.records.specs.declared.Source.{Source}
 use Rattle.records.specs.declared.PlantRecord.{PlantRecord}
@@ -48,7 +48,7 @@ source-at rs i d h = ap sourceIn (getD-any rs i d noSource h)
 
 -- What stands under the last numbers, of n: the first of them, then the others.
 pub rest-next : {A : Type 0} (place : ℕ → Option A) (n i : ℕ) → i < n
-    → standing place i (n - i) ≡ listed i (place i) (standing place (i + 1) (n - (i + 1)))
+    → standing place i (n - i) ≡ prependStanding i (place i) (standing place (i + 1) (n - (i + 1)))
 unfolding standing
 rest-next place n i h =
     let e : n - i ≡ suc (n - (i + 1)) = omega arith in
@@ -132,13 +132,13 @@ module _ (ls : List FuelLine) (n i : ℕ) (room : n ≤ length ls) where
 
 -- What stands under a number adds its part to a sum over the plants at a site.
 site-adds : (S : ℕ) (f : PlainPlant → ℕ) (i : ℕ) (o : Option Plant) (xs : List (Numbered PlainPlant))
-    → sum (map f (plantsAt S (listed i (Option·map plainOf o) xs))) ≡ addedAt S f o + sum (map f (plantsAt S xs))
-unfolding plantsAt those sum
+    → sum (map f (plantsAt S (prependStanding i (Option·map plainOf o) xs))) ≡ addedAt S f o + sum (map f (plantsAt S xs))
+unfolding plantsAt selected sum
 site-adds S f i none xs = omega arith
 site-adds S f i (some p) xs = go (eqb (p .site) S) refl
   where
     go : (t : Bool) → eqb (p .site) S ≡ t
-        → sum (map f (plantsAt S (listed i (some (plainOf p)) xs))) ≡ cond t (f (plainOf p)) 0 + sum (map f (plantsAt S xs))
+        → sum (map f (plantsAt S (prependStanding i (some (plainOf p)) xs))) ≡ cond t (f (plainOf p)) 0 + sum (map f (plantsAt S xs))
     go true e = rw e
     go false e = rw e (omega arith)
 
@@ -153,7 +153,7 @@ site-turn S f place n i h =
     ∙ site-adds S f i (place i) (standing (plainAt place) (i + 1) (n - (i + 1)))
 
 pub site-end : (S : ℕ) (f : PlainPlant → ℕ) (place : ℕ → Option Plant) (n i : ℕ) → n ≤ i → siteFrom S f place n i ≡ 0
-unfolding plantsAt those sum
+unfolding plantsAt selected sum
 site-end S f place n i h = rw (rest-none (plainAt place) n i h)
 
 -- ---- consumption
@@ -171,30 +171,30 @@ consumed {a} {b} e f g h =
 
 -- What a source adds.
 source-adds : (counts : Supply → Bool) (x : Numbered Source) (xs : List (Numbered Source))
-    → consumption counts (x ∷ xs) ≡ joined (share (x .item .side) (x .item .energy) (counts (x .item .supply))) (consumption counts xs)
-unfolding consumption those sum
+    → consumption counts (x ∷ xs) ≡ summed (share (x .item .side) (x .item .energy) (counts (x .item .supply))) (consumption counts xs)
+unfolding consumption selected sum
 source-adds counts x xs = go (counts (x .item .supply)) refl (direction (x .item .side)) refl
   where
     go : (t : Bool) → counts (x .item .supply) ≡ t → (d : Direction) → direction (x .item .side) ≡ d
-        → consumption counts (x ∷ xs) ≡ joined (share (x .item .side) (x .item .energy) (counts (x .item .supply))) (consumption counts xs)
+        → consumption counts (x ∷ xs) ≡ summed (share (x .item .side) (x .item .energy) (counts (x .item .supply))) (consumption counts xs)
     go true e Up k = simp (e, k) (consumed refl (omega arith) (omega arith) (omega arith))
     go true e Down k = simp (e, k) (consumed (omega arith) refl (omega arith) (omega arith))
     go false e Up k = simp (e, k) (consumed (omega arith) (omega arith) (omega arith) (omega arith))
     go false e Down k = simp (e, k) (consumed (omega arith) (omega arith) (omega arith) (omega arith))
 
-joined-assoc : (a b c : Consumption) → joined (joined a b) c ≡ joined a (joined b c)
-joined-assoc a b c = consumed (omega arith) (omega arith) (omega arith) (omega arith)
+summed-assoc : (a b c : Consumption) → summed (summed a b) c ≡ summed a (summed b c)
+summed-assoc a b c = consumed (omega arith) (omega arith) (omega arith) (omega arith)
 
 share-adds : (counts : Supply → Bool) (c : Consumption) (i : ℕ) (o : Option Source) (xs : List (Numbered Source))
-    → joined (withShare counts c o) (consumption counts xs) ≡ joined c (consumption counts (listed i o xs))
+    → summed (withShare counts c o) (consumption counts xs) ≡ summed c (consumption counts (prependStanding i o xs))
 share-adds counts c i none xs = refl
 share-adds counts c i (some s) xs =
-    joined-assoc c (share (s .side) (s .energy) (counts (s .supply))) (consumption counts xs)
-    ∙ ap (joined c) (sym (source-adds counts (record { number = i; item = s }) xs))
+    summed-assoc c (share (s .side) (s .energy) (counts (s .supply))) (consumption counts xs)
+    ∙ ap (summed c) (sym (source-adds counts (record { number = i; item = s }) xs))
 
 -- The consumption of those that stand under the numbers from i, of n, joined to one that is summed up.
 abbrev pub onTo : (Supply → Bool) → Consumption → (ℕ → Option Source) → ℕ → ℕ → Consumption
-onTo counts c place n i = joined c (consumption counts (standing place i (n - i)))
+onTo counts c place n i = summed c (consumption counts (standing place i (n - i)))
 
 pub total-start : (counts : Supply → Bool) (side : Side) (place : ℕ → Option Source)
     → onTo counts (share side 0 false) place 32 0 ≡ consumption counts (standing place 0 32)
@@ -204,40 +204,40 @@ pub total-turn : (counts : Supply → Bool) (c : Consumption) (place : ℕ → O
     → onTo counts (withShare counts c (place i)) place n (i + 1) ≡ onTo counts c place n i
 total-turn counts c place n i h =
     share-adds counts c i (place i) (standing place (i + 1) (n - (i + 1)))
-    ∙ ap (λ (xs : List (Numbered Source)). joined c (consumption counts xs)) (sym (rest-next place n i h))
+    ∙ ap (λ (xs : List (Numbered Source)). summed c (consumption counts xs)) (sym (rest-next place n i h))
 
 pub total-end : (counts : Supply → Bool) (c : Consumption) (place : ℕ → Option Source) (n i : ℕ) → n ≤ i → onTo counts c place n i ≡ c
-unfolding consumption those sum
+unfolding consumption selected sum
 total-end counts c place n i h = rw (rest-none place n i h) (consumed (omega arith) (omega arith) (omega arith) (omega arith))
 
 -- ---- the bounds of the sums
 
 -- What an intact source has: a loss and an energy within their limits.
-pub source-fits : (s : Source) → sourceIntact (some s) ≡ true → (lossFits (s .loss) ≡ true) × (s .energy ≤ limit)
+pub source-fits : (s : Source) → sourceIntact (some s) ≡ true → (lossWithinLimits (s .loss) ≡ true) × (s .energy ≤ limit)
 source-fits s h =
-    let p = and-both (siteFits (s .supply) && lossFits (s .loss) && lossMatches (s .supply) (s .loss)) _ h in
-    let q = and-both (siteFits (s .supply) && lossFits (s .loss)) _ (p .0) in
-    (and-both (siteFits (s .supply)) _ (q .0) .1, leb-true _ _ (p .1))
+    let p = and-both (supplyWithinLimits (s .supply) && lossWithinLimits (s .loss) && lossMatches (s .supply) (s .loss)) _ h in
+    let q = and-both (supplyWithinLimits (s .supply) && lossWithinLimits (s .loss)) _ (p .0) in
+    (and-both (supplyWithinLimits (s .supply)) _ (q .0) .1, leb-true _ _ (p .1))
 
-pub share-small : (side : Side) (E : ℕ) (t : Bool) → E ≤ limit → Small 1 (share side E t)
-share-small side E true h = go (direction side)
+pub share-within : (side : Side) (E : ℕ) (t : Bool) → E ≤ limit → ConsumptionWithin 1 (share side E t)
+share-within side E true h = go (direction side)
   where
-    go : (d : Direction) → Small 1 (ofDirection d E)
+    go : (d : Direction) → ConsumptionWithin 1 (ofDirection d E)
     go Up = record { project = omega arith; baseline = omega arith; projects = omega arith; baselines = omega arith }
     go Down = record { project = omega arith; baseline = omega arith; projects = omega arith; baselines = omega arith }
-share-small side E false h = record { project = omega arith; baseline = omega arith; projects = omega arith; baselines = omega arith }
+share-within side E false h = record { project = omega arith; baseline = omega arith; projects = omega arith; baselines = omega arith }
 
-pub small-none : (side : Side) → Small 0 (share side 0 false)
-small-none side = record { project = zero-le; baseline = zero-le; projects = zero-le; baselines = zero-le }
+pub within-none : (side : Side) → ConsumptionWithin 0 (share side 0 false)
+within-none side = record { project = zero-le; baseline = zero-le; projects = zero-le; baselines = zero-le }
 
-pub small-more : {m n : ℕ} {c : Consumption} → m ≤ n → Small m c → Small n c
-small-more l s = record { project = omega arith; baseline = omega arith; projects = omega arith; baselines = omega arith }
+pub within-more : {m n : ℕ} {c : Consumption} → m ≤ n → ConsumptionWithin m c → ConsumptionWithin n c
+within-more l s = record { project = omega arith; baseline = omega arith; projects = omega arith; baselines = omega arith }
 
-pub small-next : (counts : Supply → Bool) (i : ℕ) (c : Consumption) (o : Option Source) → sourceIntact o ≡ true → Small i c
-    → Small (i + 1) (withShare counts c o)
-small-next counts i c none h s = small-more (omega arith) s
-small-next counts i c (some a) h s =
-    let b = share-small (a .side) (a .energy) (counts (a .supply)) (source-fits a h .1) in
+pub within-next : (counts : Supply → Bool) (i : ℕ) (c : Consumption) (o : Option Source) → sourceIntact o ≡ true → ConsumptionWithin i c
+    → ConsumptionWithin (i + 1) (withShare counts c o)
+within-next counts i c none h s = within-more (omega arith) s
+within-next counts i c (some a) h s =
+    let b = share-within (a .side) (a .energy) (counts (a .supply)) (source-fits a h .1) in
     record {
       project = omega (arith, s .project, b .project);
       baseline = omega (arith, s .baseline, b .baseline);

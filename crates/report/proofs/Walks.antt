@@ -31,8 +31,8 @@ use Rattle.emissions.proofs.Factors.{GridSound}
 use Rattle.emissions.proofs.Supplies.{factor-limit, at-site-limit}
 use Rattle.emissions.proofs.Losses.{LossSound, loss-limit}
 use Rattle.emissions.proofs.Figures.{energy-limit}
-use Rattle.report.specs.Report.{PlainPlant, Books, Numbered, listed, standing, those, siteOf, captiveAt, plantsOf, intact, sourceFigure, Figured, Figures, declined, figured, withFigure, figuresFrom, ofSide, booksOf}
-use Rattle.records.specs.Judging.{lossFits}
+use Rattle.report.specs.Report.{PlainPlant, ReportInput, Numbered, prependStanding, standing, selected, siteOf, captiveAt, plantsOf, intact, sourceFigure, Figured, Figures, declined, figured, withFigure, figuresFrom, ofSide, inputOfRecords}
+use Rattle.records.specs.Judging.{lossWithinLimits}
 use Rattle.report.specs.Intact.{gridIntact, plantIntact, allIntact, sourceIntact}
 use Rattle.records.specs.Records.{sourcePlace}
 use Rattle.report.specs.Steps.{sitePlants, totalsOf, factorAt, figureAt, parts, noSums, oneMore, withGrams, SideBounded, Bounded, sideSum, walkedOf}
@@ -55,13 +55,13 @@ grid-sound Absent h = tt
 grid-sound (Entered g) h = leb-true _ _ h
 
 -- A loss that number 2 does not refuse, and that is open, is at most one half.
-pub loss-sound : (l : Loss) → lossFits l ≡ true → LossSound l
+pub loss-sound : (l : Loss) → lossWithinLimits l ≡ true → LossSound l
 loss-sound Nothing h = tt
 loss-sound (Measured T) h = leb-true T 5000 h
 loss-sound Default20 h = tt
 loss-sound Default3 h = tt
 
-pub open-limit : (dir : Direction) (c : Consumption) (l : Loss) (T : ℕ) → lossFits l ≡ true → lossOf dir c l ≡ given T → T ≤ 5000
+pub open-limit : (dir : Direction) (c : Consumption) (l : Loss) (T : ℕ) → lossWithinLimits l ≡ true → lossOf dir c l ≡ given T → T ≤ 5000
 open-limit dir c l T h e = loss-limit dir c l T (loss-sound l h) e
 
 pub grams-limit : (dir : Direction) (E T F : ℕ) → E ≤ limit → T ≤ 5000 → F ≤ factorLimit
@@ -168,12 +168,12 @@ resumed-first (declined n k) = refl
 resumed-first (figured fs) = ap walked.Summed (same-sums (more-first _) (more-first _) (more-first _))
 
 pub resumed-last : (acc : Sums) → resumed acc (figured []) ≡ walked.Summed acc
-unfolding sideSum ofSide those sum
+unfolding sideSum ofSide selected sum
 resumed-last acc = ap walked.Summed (same-sums (more-last _) (more-last _) (more-last _))
 
 one-more : (acc : Sums) (n : ℕ) (side : Side) (f : figure.Figure) (fs : List Figured)
     → moreSums acc (record { number = n; side = side; figure = f } ∷ fs) ≡ moreSums (withGrams acc side (f .grams)) fs
-unfolding sideSum ofSide those sum
+unfolding sideSum ofSide selected sum
 one-more acc n Project f fs = same-sums (same-side (omega arith) (omega arith)) refl refl
 one-more acc n Leakage f fs = same-sums refl (same-side (omega arith) (omega arith)) refl
 one-more acc n Baseline f fs = same-sums refl refl (same-side (omega arith) (omega arith))
@@ -195,23 +195,23 @@ module _ (acc : Sums) (x : Numbered Source) where
 
 -- ---- what is left of the walk at a number
 
-abbrev pub left : Books → ℕ → Figures
+abbrev pub left : ReportInput → ℕ → Figures
 left b i = figuresFrom b (standing (b .source) i (32 - i))
 
-left-next : (b : Books) (i : ℕ) → i < 32
-    → left b i ≡ figuresFrom b (listed i (b .source i) (standing (b .source) (i + 1) (32 - (i + 1))))
+left-next : (b : ReportInput) (i : ℕ) → i < 32
+    → left b i ≡ figuresFrom b (prependStanding i (b .source i) (standing (b .source) (i + 1) (32 - (i + 1))))
 unfolding standing
 left-next b i h =
     let e : 32 - i ≡ suc (32 - (i + 1)) = omega arith in
     rw (e, add-one)
 
-pub left-none : (b : Books) → left b 32 ≡ figured []
+pub left-none : (b : ReportInput) → left b 32 ≡ figured []
 unfolding standing figuresFrom
 left-none b = refl
 
-module _ (b : Books) (acc : Sums) (i : ℕ) (h : i < 32) where
+module _ (b : ReportInput) (acc : Sums) (i : ℕ) (h : i < 32) where
   pub skips : b .source i ≡ none → resumed acc (left b i) ≡ resumed acc (left b (i + 1))
-  skips e = ap (resumed acc) (left-next b i h ∙ ap (λ (o : Option Source). figuresFrom b (listed i o (standing (b .source) (i + 1) (32 - (i + 1))))) e)
+  skips e = ap (resumed acc) (left-next b i h ∙ ap (λ (o : Option Source). figuresFrom b (prependStanding i o (standing (b .source) (i + 1) (32 - (i + 1))))) e)
 
   module _ (s : Source) (e : b .source i ≡ some s) where
     left-some : left b i ≡ withFigure (numbered i s) (sourceFigure b s) (left b (i + 1))
@@ -227,12 +227,12 @@ module _ (b : Books) (acc : Sums) (i : ℕ) (h : i < 32) where
 
 -- The figure that the walk asks for.
 pub figure-is : (grid : Grid) (plants : List PlantRecord) (sources : List SourceRecord) (t : Totals) (s : Source) → t ≡ totalsOf (sourcePlace sources)
-    → sourceFigure (booksOf grid plants sources) s ≡ figureAt grid (sitePlants plants) t s
+    → sourceFigure (inputOfRecords grid plants sources) s ≡ figureAt grid (sitePlants plants) t s
 unfolding sourceFigure
 figure-is grid plants sources t s e = rw e
 
 -- The figure of a source of an intact ledger is at most 1,500,000,000,000 grams.
-pub intact-figure-limit : (b : Books) → intact b ≡ true → (n : ℕ) (s : Source) (f : figure.Figure) → n < 32 → b .source n ≡ some s
+pub intact-figure-limit : (b : ReportInput) → intact b ≡ true → (n : ℕ) (s : Source) (f : figure.Figure) → n < 32 → b .source n ≡ some s
     → sourceFigure b s ≡ given f → f .grams ≤ 1500000000000
 unfolding intact sourceFigure
 intact-figure-limit b h n s f l at e =

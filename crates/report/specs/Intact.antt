@@ -8,7 +8,7 @@ use Rattle.rounding.specs.Outcome.{Outcome, refused, given}
 use Rattle.emissions.specs.Factor.{factorLimit}
 use Rattle.emissions.specs.declared.Grid.{Grid}
 use Rattle.emissions.specs.declared.Grid.the-variants.{Absent, Entered}
-use Rattle.records.specs.Judging.{plantJudged, siteFits, lossFits, lossMatches}
+use Rattle.records.specs.Judging.{plantJudged, supplyWithinLimits, lossWithinLimits, lossMatches}
 use Rattle.records.specs.declared.Plant.{Plant}
 use Rattle.records.specs.declared.Source.{Source}
 
@@ -26,7 +26,7 @@ plantIntact (some p) = isGiven (plantJudged 0 p)
 
 abbrev pub sourceIntact : Option Source → Bool
 sourceIntact none = true
-sourceIntact (some s) = siteFits (s .supply) && lossFits (s .loss) && lossMatches (s .supply) (s .loss) && leb (s .energy) limit
+sourceIntact (some s) = supplyWithinLimits (s .supply) && lossWithinLimits (s .loss) && lossMatches (s .supply) (s .loss) && leb (s .energy) limit
 
 unfoldable pub allIntact : {A : Type 0} → (Option A → Bool) → (ℕ → Option A) → ℕ → Bool
 allIntact p place zero = true

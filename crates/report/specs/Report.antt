@@ -30,7 +30,7 @@ use Rattle.records.specs.declared.PlantRecord.{PlantRecord}
 use Rattle.records.specs.declared.SourceRecord.{SourceRecord}
 
 -- What a report reads: the grid, and the plant and the source under each number.
-pub record Books : Type 0 where
+pub record ReportInput : Type 0 where
   pub grid : Grid
   pub plant : ℕ → Option Plant
   pub source : ℕ → Option Source
@@ -40,17 +40,17 @@ pub record Numbered (A : Type 0) : Type 0 where
   pub number : ℕ
   pub item : A
 
-abbrev pub listed : {A : Type 0} → ℕ → Option A → List (Numbered A) → List (Numbered A)
-listed n none l = l
-listed n (some a) l = record { number = n; item = a } ∷ l
+abbrev pub prependStanding : {A : Type 0} → ℕ → Option A → List (Numbered A) → List (Numbered A)
+prependStanding n none l = l
+prependStanding n (some a) l = record { number = n; item = a } ∷ l
 
 unfoldable pub standing : {A : Type 0} → (ℕ → Option A) → ℕ → ℕ → List (Numbered A)
 standing place from zero = []
-standing place from (suc count) = listed from (place from) (standing place (suc from) count)
+standing place from (suc count) = prependStanding from (place from) (standing place (suc from) count)
 
 -- "Sources are numbered 0 to 31, plants 0 to 7".
-abbrev pub sourcesOf : Books → List (Numbered Source)
-sourcesOf b = standing (b .source) 0 32
+abbrev pub sourcesOf : ReportInput → List (Numbered Source)
+sourcesOf input = standing (input .source) 0 32
 
 -- A plant as the rules read it: its site, its generation in kWh, and the fuel lines that count.
 pub record PlainPlant : Type 0 where
@@ -67,13 +67,13 @@ plainAt place n = Option·map plainOf (place n)
 abbrev pub plantsIn : (ℕ → Option Plant) → List (Numbered PlainPlant)
 plantsIn place = standing (plainAt place) 0 8
 
-abbrev pub plantsOf : Books → List (Numbered PlainPlant)
-plantsOf b = plantsIn (b .plant)
+abbrev pub plantsOf : ReportInput → List (Numbered PlainPlant)
+plantsOf input = plantsIn (input .plant)
 
 -- Those of a list that pass a test.
-unfoldable pub those : {A : Type 0} → (A → Bool) → List A → List A
-those p [] = []
-those p (x ∷ xs) = cond (p x) (x ∷ those p xs) (those p xs)
+unfoldable pub selected : {A : Type 0} → (A → Bool) → List A → List A
+selected p [] = []
+selected p (x ∷ xs) = cond (p x) (x ∷ selected p xs) (selected p xs)
 
 -- ---- P, B, P' and B'
 
@@ -88,10 +88,10 @@ energyIn x = x .item .energy
 unfoldable pub consumption : (Supply → Bool) → List (Numbered Source) → Consumption
 consumption supplies xs =
     record {
-      project = sum (map energyIn (those (countsIn supplies isProject) xs));
-      baseline = sum (map energyIn (those (countsIn supplies isBaseline) xs));
-      projects = length (those (countsIn supplies isProject) xs);
-      baselines = length (those (countsIn supplies isBaseline) xs);
+      project = sum (map energyIn (selected (countsIn supplies isProject) xs));
+      baseline = sum (map energyIn (selected (countsIn supplies isBaseline) xs));
+      projects = length (selected (countsIn supplies isProject) xs);
+      baselines = length (selected (countsIn supplies isBaseline) xs);
     }
 
 -- P and B: "with combined or griddefault supply".
@@ -121,7 +121,7 @@ exactPlant p = sumᵣ (map exactMilligrams (p .lines))
 
 -- "each plant at S".
 unfoldable pub plantsAt : ℕ → List (Numbered PlainPlant) → List PlainPlant
-plantsAt S xs = map item (those (λ (x : Numbered PlainPlant). eqb (x .item .site) S) xs)
+plantsAt S xs = map item (selected (λ (x : Numbered PlainPlant). eqb (x .item .site) S) xs)
   where
     item : Numbered PlainPlant → PlainPlant
     item x = x .item
@@ -141,10 +141,10 @@ captiveAt dir plants S = atSite dir (siteOf plants S)
 -- ---- the figure of each source
 
 -- "for each source, by rising number: 8 .. 9 .. 10 .. 11 .. 12".
-unfoldable pub sourceFigure : Books → Source → Outcome Figure
-sourceFigure b s =
-    andThen (chosen (direction (s .side)) (b .grid) (captiveAt (direction (s .side)) (plantsOf b)) (consumption comparesFactor (sourcesOf b)) (s .supply)) (λ x.
-    andThen (lossOf (direction (s .side)) (consumption comparesLoss (sourcesOf b)) (s .loss)) (λ T.
+unfoldable pub sourceFigure : ReportInput → Source → Outcome Figure
+sourceFigure input s =
+    andThen (chosen (direction (s .side)) (input .grid) (captiveAt (direction (s .side)) (plantsOf input)) (consumption comparesFactor (sourcesOf input)) (s .supply)) (λ x.
+    andThen (lossOf (direction (s .side)) (consumption comparesLoss (sourcesOf input)) (s .loss)) (λ T.
     given (figureOf (direction (s .side)) (s .energy) (x .choice) T (x .factor))))
 
 -- A source with its figure; or the first refusal, which "carries the source's number".
@@ -157,17 +157,17 @@ pub data Figures : Type 0 where
   declined : ℕ → ℕ → Figures
   figured : List Figured → Figures
 
-abbrev pub joined : Figured → Figures → Figures
-joined f (declined n k) = declined n k
-joined f (figured fs) = figured (f ∷ fs)
+abbrev pub prepended : Figured → Figures → Figures
+prepended f (declined n k) = declined n k
+prepended f (figured fs) = figured (f ∷ fs)
 
 abbrev pub withFigure : Numbered Source → Outcome Figure → Figures → Figures
 withFigure x (refused n) rest = declined n (x .number)
-withFigure x (given f) rest = joined (record { number = x .number; side = x .item .side; figure = f }) rest
+withFigure x (given f) rest = prepended (record { number = x .number; side = x .item .side; figure = f }) rest
 
-unfoldable pub figuresFrom : Books → List (Numbered Source) → Figures
-figuresFrom b [] = figured []
-figuresFrom b (x ∷ xs) = withFigure x (sourceFigure b (x .item)) (figuresFrom b xs)
+unfoldable pub figuresFrom : ReportInput → List (Numbered Source) → Figures
+figuresFrom input [] = figured []
+figuresFrom input (x ∷ xs) = withFigure x (sourceFigure input (x .item)) (figuresFrom input xs)
 
 -- ---- sides and the reduction
 
@@ -177,7 +177,7 @@ sideIndex Leakage = 1
 sideIndex Baseline = 2
 
 unfoldable pub ofSide : Side → List Figured → List Figured
-ofSide side fs = those (λ (f : Figured). eqb (sideIndex (f .side)) (sideIndex side)) fs
+ofSide side fs = selected (λ (f : Figured). eqb (sideIndex (f .side)) (sideIndex side)) fs
 
 -- "its grams (sum of source figures), its tonnes (grams ÷ 1,000,000, rounded as the side) and its number of standing sources".
 pub record SideReport : Type 0 where
@@ -227,8 +227,11 @@ pub data Reply : Type 0 where
   damaged : Reply
 
 -- "After all sources, 13 a side above 1,000,000,000,000,000 grams."
+abbrev pub sideLimit : ℕ
+sideLimit = 1000000000000000
+
 abbrev pub sideFits : SideReport → Bool
-sideFits s = leb (s .grams) 1000000000000000
+sideFits s = leb (s .grams) sideLimit
 
 abbrev pub allFit : Report → Bool
 allFit r = sideFits (r .project) && sideFits (r .leakage) && sideFits (r .baseline)
@@ -237,8 +240,8 @@ abbrev pub replyFrom : Figures → Reply
 replyFrom (declined n k) = refusedAt n k
 replyFrom (figured fs) = cond (allFit (reportFrom fs)) (reported (reportFrom fs)) (refusedWith 13)
 
-unfoldable pub reportOf : Books → Reply
-reportOf b = replyFrom (figuresFrom b (sourcesOf b))
+unfoldable pub reportOf : ReportInput → Reply
+reportOf input = replyFrom (figuresFrom input (sourcesOf input))
 
 -- The answer to an entry or a drop.
 abbrev pub acknowledged : {A : Type 0} → Outcome A → Reply
@@ -248,13 +251,13 @@ acknowledged (given a) = ok
 -- ---- a report on records
 
 -- What the records of a ledger show.
-abbrev pub booksOf : Grid → List PlantRecord → List SourceRecord → Books
-booksOf grid plants sources = record { grid = grid; plant = plantPlace plants; source = sourcePlace sources }
+abbrev pub inputOfRecords : Grid → List PlantRecord → List SourceRecord → ReportInput
+inputOfRecords grid plants sources = record { grid = grid; plant = plantPlace plants; source = sourcePlace sources }
 
 -- Whether everything that stands meets the limits that an accepted entry meets.
-unfoldable pub intact : Books → Bool
-intact b = gridIntact (b .grid) && allIntact plantIntact (b .plant) 8 && allIntact sourceIntact (b .source) 32
+unfoldable pub intact : ReportInput → Bool
+intact input = gridIntact (input .grid) && allIntact plantIntact (input .plant) 8 && allIntact sourceIntact (input .source) 32
 
 -- The answer to a report on what records show: `damaged` where something that stands is not what an accepted entry leaves.
-unfoldable pub checkedReportOf : Books → Reply
-checkedReportOf b = cond (intact b) (reportOf b) damaged
+unfoldable pub checkedReportOf : ReportInput → Reply
+checkedReportOf input = cond (intact input) (reportOf input) damaged

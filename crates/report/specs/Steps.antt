@@ -13,6 +13,7 @@ use Rattle.rounding.specs.Outcome.{Outcome, refused, given, andThen}
 use Rattle.emissions.specs.Factor.{direction, chosen, factorIn}
 use Rattle.emissions.specs.Loss.{lossOf}
 use Rattle.emissions.specs.Figure as figure
+use Rattle.emissions.specs.Figure.{energyLimit}
 use Rattle.emissions.specs.declared.Consumption.{Consumption}
 use Rattle.emissions.specs.declared.Grid.{Grid}
 use Rattle.emissions.specs.declared.Side.{Side}
@@ -36,6 +37,20 @@ use Rattle.report.specs.declared.Walked.the-variants as walked
 use Rattle.report.specs.declared.SideReport.{SideReport}
 use Rattle.report.specs.declared.Report.{Report}
 
+-- ---- bounds that follow from the limits of entries
+
+-- The milligrams of a plant: 4 fuel lines, each at most 100,000,000 × 150,000 × 200,000 ÷ 1,000.
+abbrev pub plantBound : ℕ
+plantBound = 12000000000000000
+
+-- The grams of a figure: 150,000,000,000 Wh with losses at 10,000,000 mg/kWh.
+abbrev pub figureBound : ℕ
+figureBound = 1500000000000
+
+-- The tonnes of a side: its limit in grams ÷ 1,000,000.
+abbrev pub tonnesBound : ℕ
+tonnesBound = 1000000000
+
 -- The plants that the records show.
 abbrev pub sitePlants : List PlantRecord → List (Numbered PlainPlant)
 sitePlants rs = plantsIn (plantPlace rs)
@@ -49,8 +64,8 @@ abbrev pub share : Side → ℕ → Bool → Consumption
 share side E true = ofDirection (direction side) E
 share side E false = record { project = 0; baseline = 0; projects = 0; baselines = 0 }
 
-abbrev pub joined : Consumption → Consumption → Consumption
-joined a b =
+abbrev pub summed : Consumption → Consumption → Consumption
+summed a b =
     record {
       project = a .project + b .project;
       baseline = a .baseline + b .baseline;
@@ -59,16 +74,16 @@ joined a b =
     }
 
 -- The consumption of at most n sources within their limit.
-pub record Small (n : ℕ) (c : Consumption) : Type 0 where
-  pub project : c .project ≤ n * 100000000000
-  pub baseline : c .baseline ≤ n * 100000000000
+pub record ConsumptionWithin (n : ℕ) (c : Consumption) : Type 0 where
+  pub project : c .project ≤ n * energyLimit
+  pub baseline : c .baseline ≤ n * energyLimit
   pub projects : c .projects ≤ n
   pub baselines : c .baselines ≤ n
 
 -- Sums with what stands under one more number: the consumption of those that count, and the totals.
 abbrev pub withShare : (Supply → Bool) → Consumption → Option Source → Consumption
 withShare counts c none = c
-withShare counts c (some s) = joined c (share (s .side) (s .energy) (counts (s .supply)))
+withShare counts c (some s) = summed c (share (s .side) (s .energy) (counts (s .supply)))
 
 abbrev pub totalsWith : Totals → Option Source → Totals
 totalsWith t o = record { factor = withShare comparesFactor (t .factor) o; loss = withShare comparesLoss (t .loss) o }
@@ -100,12 +115,12 @@ figureAt grid plants t s =
     given (figure.figureOf (direction (s .side)) (s .energy) (x .choice) T (x .factor))))
 
 -- What the code hands up of a figure: F, U and the grams.
-abbrev pub handed : figure.Figure → Figure
-handed f = record { factor = f .factor; energy = f .energy; grams = f .grams }
+abbrev pub codeFigure : figure.Figure → Figure
+codeFigure f = record { factor = f .factor; energy = f .energy; grams = f .grams }
 
 abbrev pub parts : Outcome figure.Figure → Outcome Figure
 parts (refused n) = refused n
-parts (given f) = given (handed f)
+parts (given f) = given (codeFigure f)
 
 abbrev pub figureMeaning : FigureJudged → Outcome Figure
 figureMeaning (figureJudged.Refused n) = refused n
@@ -115,10 +130,10 @@ abbrev pub figureRefusal : FigureJudged → ℕ
 figureRefusal (figureJudged.Refused n) = n
 figureRefusal (figureJudged.Given f) = 0
 
--- A figure's grams are at most 1,500,000,000,000.
+-- A figure's grams are within their bound.
 abbrev pub FigureWithin : FigureJudged → Type 0
 FigureWithin (figureJudged.Refused n) = Unit {0}
-FigureWithin (figureJudged.Given f) = f .grams ≤ 1500000000000
+FigureWithin (figureJudged.Given f) = f .grams ≤ figureBound
 
 -- ---- the sums by side
 
@@ -138,9 +153,9 @@ withGrams s Project g = record { project = oneMore (s .project) g; leakage = s .
 withGrams s Leakage g = record { project = s .project; leakage = oneMore (s .leakage) g; baseline = s .baseline }
 withGrams s Baseline g = record { project = s .project; leakage = s .leakage; baseline = oneMore (s .baseline) g }
 
--- The sums of at most n sources, each at most 1,500,000,000,000 grams.
+-- The sums of at most n sources, each within the bound of a figure's grams.
 pub record SideBounded (n : ℕ) (s : SideSum) : Type 0 where
-  pub grams : s .grams ≤ n * 1500000000000
+  pub grams : s .grams ≤ n * figureBound
   pub sources : s .sources ≤ n
 
 pub record Bounded (n : ℕ) (s : Sums) : Type 0 where

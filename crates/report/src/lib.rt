@@ -7,12 +7,13 @@ ghost use Prim.Native.Nat.{_+_, _*_, _≤_, _<_};
 ghost use Rattle.emissions.specs.Answers.{factorMeaning};
 ghost use Rattle.emissions.specs.Factor.{direction, siteNamed};
 ghost use Rattle.emissions.specs.Steps.{atNamed};
-ghost use Rattle.report.specs.Report.{comparesFactor, comparesLoss, plantMilligrams, siteOf, captiveAt, figuresFrom, sourcesOf, reportOf, checkedReportOf, booksOf, plainOf};
+ghost use Rattle.report.specs.Report.{comparesFactor, comparesLoss, plantMilligrams, siteOf, captiveAt, figuresFrom, sourcesOf, reportOf, checkedReportOf, inputOfRecords, plainOf};
+ghost use Rattle.records.specs.Judging.{lastPlant, lastSource, generationLimit};
 ghost use Rattle.records.specs.Records.{plantIn, sourceIn, plantPlace, sourcePlace};
 ghost use Rattle.report.specs.Intact.{plantIntact, sourceIntact, gridIntact, allIntact};
 ghost use mathlib.Core.Option.{some};
 ghost use Rattle.report.specs.Answers.{sideMeaning, reportMeaning};
-ghost use Rattle.report.specs.Steps.{sitePlants, share, joined, Small, totalsWith, totalsOf, siteWith, figureAt, parts, figureMeaning, FigureWithin, figureRefusal, noSums, withGrams, Bounded, walkedOf, sideFrom, reductionOf, reportedOf};
+ghost use Rattle.report.specs.Steps.{sitePlants, share, summed, ConsumptionWithin, totalsWith, totalsOf, siteWith, figureAt, parts, figureMeaning, FigureWithin, figureRefusal, noSums, withGrams, Bounded, walkedOf, sideFrom, reductionOf, reportedOf, plantBound, figureBound, tonnesBound, SideBounded};
 use emissions::Consumption;
 use emissions::EmissionsJudged;
 use emissions::FactorJudged;
@@ -163,8 +164,8 @@ fn share_of(side: Side, energy: u64, counts: bool) -> Consumption
 }
 
 fn plus(a: Consumption, b: Consumption) -> Consumption
-    requires { ⌜ Small 31 a × Small 1 b ⌝ }
-    ensures { λ r. ⌜ r ≡ joined a b ⌝ }
+    requires { ⌜ ConsumptionWithin lastSource a × ConsumptionWithin 1 b ⌝ }
+    ensures { λ r. ⌜ r ≡ summed a b ⌝ }
 {
     Consumption {
         project: a.project + b.project,
@@ -176,7 +177,7 @@ fn plus(a: Consumption, b: Consumption) -> Consumption
 
 // The totals with what a record shows.
 fn with_source(totals: Totals, held: SourceRecord) -> Totals
-    requires { ⌜ Small 31 (totals .factor) × Small 31 (totals .loss) × (sourceIntact (sourceIn held) ≡ true) ⌝ }
+    requires { ⌜ ConsumptionWithin lastSource (totals .factor) × ConsumptionWithin lastSource (totals .loss) × (sourceIntact (sourceIn held) ≡ true) ⌝ }
     ensures { λ r. ⌜ r ≡ totalsWith totals (sourceIn held) ⌝ }
 {
     if held.stands {
@@ -197,7 +198,7 @@ fn with_source(totals: Totals, held: SourceRecord) -> Totals
 }
 
 // P, B, P' and B' of the sources that stand, in one pass.
-fn totals_of(sources: [SourceRecord; 32]) -> Totals
+fn totals_of(sources: [SourceRecord; Source::PLACES]) -> Totals
     requires { ⌜ allIntact sourceIntact (sourcePlace sources) 32 ≡ true ⌝ }
     ensures { λ r. ⌜ r ≡ totalsOf (sourcePlace sources) ⌝ }
 {
@@ -206,7 +207,7 @@ fn totals_of(sources: [SourceRecord; 32]) -> Totals
         loss: share_of(Side::Project, 0, false),
     };
     let mut i = 0;
-    while i < 32 {
+    while i < Source::PLACES {
         let held = sources[i];
         totals = with_source(totals, held);
         i += 1;
@@ -217,7 +218,7 @@ fn totals_of(sources: [SourceRecord; 32]) -> Totals
 // A plant's milligrams: its fuel lines, each rounded.
 fn plant_milligrams(plant: Plant, direction: Direction) -> u64
     requires { ⌜ plantIntact (some plant) ≡ true ⌝ }
-    ensures { λ r. ⌜ (r ≡ plantMilligrams direction (plainOf plant)) × (r ≤ 12000000000000000) ⌝ }
+    ensures { λ r. ⌜ (r ≡ plantMilligrams direction (plainOf plant)) × (r ≤ plantBound) ⌝ }
 {
     let lines = plant.lines;
     let count = plant.count as usize;
@@ -236,8 +237,8 @@ fn plant_milligrams(plant: Plant, direction: Direction) -> u64
 
 // The sums with what a record shows.
 fn with_plant(sums: SiteSums, held: PlantRecord, site: u8, direction: Direction) -> SiteSums
-    requires { ⌜ (sums .milligrams ≤ 7 * 12000000000000000) × (sums .generation ≤ 7 * 100000000) × (plantIntact (plantIn held) ≡ true) ⌝ }
-    ensures { λ r. ⌜ (r ≡ siteWith site direction sums (plantIn held)) × (r .milligrams ≤ sums .milligrams + 12000000000000000) × (r .generation ≤ sums .generation + 100000000) ⌝ }
+    requires { ⌜ (sums .milligrams ≤ lastPlant * plantBound) × (sums .generation ≤ lastPlant * generationLimit) × (plantIntact (plantIn held) ≡ true) ⌝ }
+    ensures { λ r. ⌜ (r ≡ siteWith site direction sums (plantIn held)) × (r .milligrams ≤ sums .milligrams + plantBound) × (r .generation ≤ sums .generation + generationLimit) ⌝ }
 {
     if held.stands {
         if held.site == site {
@@ -253,7 +254,7 @@ fn with_plant(sums: SiteSums, held: PlantRecord, site: u8, direction: Direction)
 }
 
 // The milligrams and the generation of the plants at a site, in one pass.
-fn site_sums(plants: [PlantRecord; 8], site: u8, direction: Direction) -> SiteSums
+fn site_sums(plants: [PlantRecord; Plant::PLACES], site: u8, direction: Direction) -> SiteSums
     requires { ⌜ allIntact plantIntact (plantPlace plants) 8 ≡ true ⌝ }
     ensures { λ r. ⌜ (r .milligrams ≡ siteOf (sitePlants plants) site .milligrams direction) × (r .generation ≡ siteOf (sitePlants plants) site .generation) ⌝ }
 {
@@ -262,7 +263,7 @@ fn site_sums(plants: [PlantRecord; 8], site: u8, direction: Direction) -> SiteSu
         generation: 0,
     };
     let mut i = 0;
-    while i < 8 {
+    while i < Plant::PLACES {
         let held = plants[i];
         sums = with_plant(sums, held, site, direction);
         i += 1;
@@ -271,7 +272,7 @@ fn site_sums(plants: [PlantRecord; 8], site: u8, direction: Direction) -> SiteSu
 }
 
 // The captive factor of a site in a direction, or refusal 9 or 10.
-fn site_factor(plants: [PlantRecord; 8], site: u8, direction: Direction) -> FactorJudged
+fn site_factor(plants: [PlantRecord; Plant::PLACES], site: u8, direction: Direction) -> FactorJudged
     requires { ⌜ allIntact plantIntact (plantPlace plants) 8 ≡ true ⌝ }
     ensures { λ r. ⌜ factorMeaning r ≡ captiveAt direction (sitePlants plants) site ⌝ }
 {
@@ -280,7 +281,11 @@ fn site_factor(plants: [PlantRecord; 8], site: u8, direction: Direction) -> Fact
 }
 
 // The captive factor of the site that a supply names, or refusal 9 or 10; where it names none, 9.
-fn named_site_factor(plants: [PlantRecord; 8], supply: Supply, direction: Direction) -> FactorJudged
+fn named_site_factor(
+    plants: [PlantRecord; Plant::PLACES],
+    supply: Supply,
+    direction: Direction,
+) -> FactorJudged
     requires { ⌜ allIntact plantIntact (plantPlace plants) 8 ≡ true ⌝ }
     ensures { λ r. ⌜ factorMeaning r ≡ atNamed (captiveAt direction (sitePlants plants)) (siteNamed supply) ⌝ }
 {
@@ -295,7 +300,7 @@ fn named_site_factor(plants: [PlantRecord; 8], supply: Supply, direction: Direct
 // within the limits at which grams are worked out.
 fn source_figure(
     grid: Grid,
-    plants: [PlantRecord; 8],
+    plants: [PlantRecord; Plant::PLACES],
     totals: Totals,
     source: Source,
 ) -> FigureJudged
@@ -342,7 +347,7 @@ impl SideSum {
 
     // One more source, with so many grams.
     fn plus(self, grams: u64) -> SideSum
-        requires { ⌜ (self .grams ≤ 48000000000000) × (self .sources ≤ 31) × (grams ≤ 1500000000000) ⌝ }
+        requires { ⌜ SideBounded lastSource self × (grams ≤ figureBound) ⌝ }
         ensures { λ r. ⌜ r ≡ record { grams = self .grams + grams; sources = self .sources + 1 } ⌝ }
     {
         SideSum {
@@ -365,7 +370,7 @@ impl Sums {
 
     // One more source on a side.
     fn plus(self, side: Side, grams: u64) -> Sums
-        requires { ⌜ Bounded 31 self × (grams ≤ 1500000000000) ⌝ }
+        requires { ⌜ Bounded lastSource self × (grams ≤ figureBound) ⌝ }
         ensures { λ r. ⌜ r ≡ withGrams self side grams ⌝ }
     {
         let project = self.project;
@@ -392,13 +397,18 @@ impl Sums {
 }
 
 // The figures of the sources that stand, by rising number, summed by side; the first refusal ends it.
-fn walk(grid: Grid, plants: [PlantRecord; 8], sources: [SourceRecord; 32], totals: Totals) -> Walked
+fn walk(
+    grid: Grid,
+    plants: [PlantRecord; Plant::PLACES],
+    sources: [SourceRecord; Source::PLACES],
+    totals: Totals,
+) -> Walked
     requires { ⌜ (gridIntact grid ≡ true) × (allIntact plantIntact (plantPlace plants) 8 ≡ true) × (allIntact sourceIntact (sourcePlace sources) 32 ≡ true) × (totals ≡ totalsOf (sourcePlace sources)) ⌝ }
-    ensures { λ r. ⌜ r ≡ walkedOf (figuresFrom (booksOf grid plants sources) (sourcesOf (booksOf grid plants sources))) ⌝ }
+    ensures { λ r. ⌜ r ≡ walkedOf (figuresFrom (inputOfRecords grid plants sources) (sourcesOf (inputOfRecords grid plants sources))) ⌝ }
 {
     let mut sums = Sums::empty();
     let mut i: u8 = 0;
-    while i < 32 {
+    while i < Source::NUMBERS {
         let held = sources[i as usize];
         if held.stands {
             let source = held.source();
@@ -429,7 +439,7 @@ impl SideSum {
 
 // Baseline less project less leakage tonnes.
 fn reduction(baseline: u64, project: u64, leakage: u64) -> i64
-    requires { ⌜ (baseline ≤ 1000000000) × (project ≤ 1000000000) × (leakage ≤ 1000000000) ⌝ }
+    requires { ⌜ (baseline ≤ tonnesBound) × (project ≤ tonnesBound) × (leakage ≤ tonnesBound) ⌝ }
     ensures { λ r. ⌜ r ≡ reductionOf baseline project leakage ⌝ }
 {
     baseline as i64 - project as i64 - leakage as i64
@@ -494,8 +504,8 @@ fn source_is_intact(held: SourceRecord) -> bool
     if held.stands {
         let supply = held.supply;
         let loss = held.loss;
-        if records::has_site(supply) {
-            if records::has_loss(loss) {
+        if records::supply_is_within_limits(supply) {
+            if records::loss_is_within_limits(loss) {
                 if records::is_matched(supply, loss) {
                     return held.energy <= Reading::LIMIT;
                 }
@@ -507,12 +517,12 @@ fn source_is_intact(held: SourceRecord) -> bool
 }
 
 // These two look at every record: a loop that ends early is unrolled with a copy of the array in parts.
-fn plants_are_intact(plants: [PlantRecord; 8]) -> bool
+fn plants_are_intact(plants: [PlantRecord; Plant::PLACES]) -> bool
     ensures { λ r. ⌜ r ≡ allIntact plantIntact (plantPlace plants) 8 ⌝ }
 {
     let mut intact = true;
     let mut i = 0;
-    while i < 8 {
+    while i < Plant::PLACES {
         let held = plants[i];
         intact = plant_is_intact(held) & intact;
         i += 1;
@@ -520,12 +530,12 @@ fn plants_are_intact(plants: [PlantRecord; 8]) -> bool
     intact
 }
 
-fn sources_are_intact(sources: [SourceRecord; 32]) -> bool
+fn sources_are_intact(sources: [SourceRecord; Source::PLACES]) -> bool
     ensures { λ r. ⌜ r ≡ allIntact sourceIntact (sourcePlace sources) 32 ⌝ }
 {
     let mut intact = true;
     let mut i = 0;
-    while i < 32 {
+    while i < Source::PLACES {
         let held = sources[i];
         intact = source_is_intact(held) & intact;
         i += 1;
@@ -534,9 +544,13 @@ fn sources_are_intact(sources: [SourceRecord; 32]) -> bool
 }
 
 // The answer to a report on records that are intact.
-fn answer(grid: Grid, plants: [PlantRecord; 8], sources: [SourceRecord; 32]) -> Reported
+fn answer(
+    grid: Grid,
+    plants: [PlantRecord; Plant::PLACES],
+    sources: [SourceRecord; Source::PLACES],
+) -> Reported
     requires { ⌜ (gridIntact grid ≡ true) × (allIntact plantIntact (plantPlace plants) 8 ≡ true) × (allIntact sourceIntact (sourcePlace sources) 32 ≡ true) ⌝ }
-    ensures { λ r. ⌜ reportMeaning r ≡ reportOf (booksOf grid plants sources) ⌝ }
+    ensures { λ r. ⌜ reportMeaning r ≡ reportOf (inputOfRecords grid plants sources) ⌝ }
 {
     let walked = walk(grid, plants, sources, totals_of(sources));
     match walked {
@@ -547,8 +561,12 @@ fn answer(grid: Grid, plants: [PlantRecord; 8], sources: [SourceRecord; 32]) -> 
 
 // Reports on records: on what stands, where everything that stands meets the limits of an accepted entry
 // (document 01, "Report").
-pub fn report_of(grid: Grid, plants: [PlantRecord; 8], sources: [SourceRecord; 32]) -> Reported
-    ensures { λ r. ⌜ reportMeaning r ≡ checkedReportOf (booksOf grid plants sources) ⌝ }
+pub fn report_of(
+    grid: Grid,
+    plants: [PlantRecord; Plant::PLACES],
+    sources: [SourceRecord; Source::PLACES],
+) -> Reported
+    ensures { λ r. ⌜ reportMeaning r ≡ checkedReportOf (inputOfRecords grid plants sources) ⌝ }
 {
     if grid_is_intact(grid) {
         if plants_are_intact(plants) {

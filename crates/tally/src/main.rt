@@ -5,19 +5,24 @@ use answers::Written;
 use libc::STDIN_FILENO;
 use libc::STDOUT_FILENO;
 
-// Zeros for an input: one byte more than it may have, so that a longer one is seen. Only the length is
-// stated, here and below, so that the array need not be computed in a proof.
-fn input_buffer() -> [u8; 65537]
+// One byte more than an input may have, so that a longer one is seen; and what the longest one needs.
+const INPUT_BYTES: usize = Written::INPUT_LIMIT + 1;
+
+const OUTPUT_BYTES: usize = Written::BYTES_FOR_EACH * Written::INPUT_LIMIT;
+
+// Zeros for an input. Only the length is stated, here and below, so that the array need not be computed in a
+// proof.
+fn input_buffer() -> [u8; INPUT_BYTES]
     ensures { λ r. ⌜ 65537 ≡ length r ⌝ }
 {
-    [0; 65537]
+    [0; INPUT_BYTES]
 }
 
-// Zeros for an output: 18 bytes for each byte of the longest input.
-fn output_buffer() -> [u8; 1179648]
+// Zeros for an output.
+fn output_buffer() -> [u8; OUTPUT_BYTES]
     ensures { λ r. ⌜ 1179648 ≡ length r ⌝ }
 {
-    [0; 1179648]
+    [0; OUTPUT_BYTES]
 }
 
 // Writes the first bytes of a buffer.

@@ -1,9 +1,9 @@
--- `records::has_site` meets its contract: each kind of supply in turn. Assumes nothing.
+-- `records::supply_is_within_limits` meets its contract: each kind of supply in turn. Assumes nothing.
 use borrow.Author.Needs.{needs}
 use mathlib.Core.Path.{sym, ap}
-use Rattle.records.specs.Judging.{siteFits}
-use Rattle.records.proofs.has_site.Statement.{statement}
-use Rattle.records.proofs.has_site.Tie as tie
+use Rattle.records.specs.Judging.{supplyWithinLimits}
+use Rattle.records.proofs.supply_is_within_limits.Statement.{statement}
+use Rattle.records.proofs.supply_is_within_limits.Tie as tie
 
 enum-told : tie.Need-enum-told
 enum-told c = search needs
@@ -27,16 +27,16 @@ returns-2 : tie.Need-returns-2
 returns-2 c = search needs
 
 returns-3 : tie.Need-returns-3
-returns-3 c = ap siteFits (sym (c .before .supply .given .1))
+returns-3 c = ap supplyWithinLimits (sym (c .before .supply .given .1))
 
 returns-4 : tie.Need-returns-4
 returns-4 c = search needs
 
 returns-5 : tie.Need-returns-5
-returns-5 c = ap siteFits (sym (c .before .supply2 .given .1))
+returns-5 c = ap supplyWithinLimits (sym (c .before .supply2 .given .1))
 
-pub has-site-spec : {M : Type 1} → statement M
-has-site-spec =
+pub supply-is-within-limits-spec : {M : Type 1} → statement M
+supply-is-within-limits-spec =
     tie.close
     (tie.spec
     enum-told

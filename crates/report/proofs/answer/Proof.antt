@@ -2,7 +2,7 @@
 -- Assumes nothing.
 use borrow.Author.Needs.{needs}
 use mathlib.Core.Path.{_≡_, refl, sym, ap, _∙_}
-use Rattle.report.specs.Report.{Books, sourcesOf, Figures, declined, figured, figuresFrom, Reply, refusedAt, replyFrom, sideReport, reportFrom, reportOf, booksOf}
+use Rattle.report.specs.Report.{ReportInput, sourcesOf, Figures, declined, figured, figuresFrom, Reply, refusedAt, replyFrom, sideReport, reportFrom, reportOf, inputOfRecords}
 use Rattle.report.specs.Steps.{sideSum, walkedOf, reportedOf}
 use Rattle.report.specs.declared.Walked.{Walked}
 use Rattle.report.specs.declared.Walked.the-variants.{Refused, Summed}
@@ -19,7 +19,7 @@ unfolding sideSum sideReport reportFrom reportedOf
 as-reported (declined n k) = refl
 as-reported (figured fs) = refl
 
-walked-so : (b : Books) {w v : Walked} → w ≡ walkedOf (figuresFrom b (sourcesOf b)) → w ≡ v → answerTo v ≡ reportOf b
+walked-so : (b : ReportInput) {w v : Walked} → w ≡ walkedOf (figuresFrom b (sourcesOf b)) → w ≡ v → answerTo v ≡ reportOf b
 unfolding reportOf
 walked-so b e q = ap answerTo (sym q ∙ e) ∙ as-reported (figuresFrom b (sourcesOf b))
 
@@ -41,13 +41,13 @@ reported-requires c κs = search needs
 returns : tie.Need-returns
 returns c =
     let a = c .before .before .before .before .before .args in
-    walked-so (booksOf (a .grid) (a .plants) (a .sources)) (c .before .before .before .walk .ensures) (c .before .walked .given .1)
+    walked-so (inputOfRecords (a .grid) (a .plants) (a .sources)) (c .before .before .before .walk .ensures) (c .before .walked .given .1)
 
 returns-2 : tie.Need-returns-2
 returns-2 c =
     let a = c .before .before .before .before .before .before .args in
     c .reported .ensures
-    ∙ walked-so (booksOf (a .grid) (a .plants) (a .sources)) (c .before .before .before .before .walk .ensures) (c .before .before .walked2 .given .1)
+    ∙ walked-so (inputOfRecords (a .grid) (a .plants) (a .sources)) (c .before .before .before .before .walk .ensures) (c .before .before .walked2 .given .1)
 
 pub answer-spec : {M : Type 1} → statement M
 answer-spec =

@@ -4,11 +4,11 @@ use mathlib.Core.Path.{sym, _∙_}
 use Rattle.report.proofs.source_is_intact.Statement.{statement}
 use Rattle.report.proofs.source_is_intact.Tie as tie
 
-has-site-requires : tie.Need-has-site-requires
-has-site-requires c κs = search needs
+supply-is-within-limits-requires : tie.Need-supply-is-within-limits-requires
+supply-is-within-limits-requires c κs = search needs
 
-has-loss-requires : tie.Need-has-loss-requires
-has-loss-requires c κs = search needs
+loss-is-within-limits-requires : tie.Need-loss-is-within-limits-requires
+loss-is-within-limits-requires c κs = search needs
 
 is-matched-requires : tie.Need-is-matched-requires
 is-matched-requires c κs = search needs
@@ -17,8 +17,8 @@ returns : tie.Need-returns
 returns c =
     rw (
       c .before .before .before .before .before .before .before .if1 .taken,
-      sym (c .before .before .before .before .before .before .has-site .ensures) ∙ c .before .before .before .before .before .if2 .taken,
-      sym (c .before .before .before .before .has-loss .ensures) ∙ c .before .before .before .if3 .taken,
+      sym (c .before .before .before .before .before .before .supply-is-within-limits .ensures) ∙ c .before .before .before .before .before .if2 .taken,
+      sym (c .before .before .before .before .loss-is-within-limits .ensures) ∙ c .before .before .before .if3 .taken,
       sym (c .before .before .is-matched .ensures) ∙ c .before .if4 .taken,
     )
 
@@ -26,8 +26,8 @@ returns-2 : tie.Need-returns-2
 returns-2 c =
     rw (
       c .before .before .before .before .before .before .if1 .taken,
-      sym (c .before .before .before .before .before .has-site .ensures) ∙ c .before .before .before .before .if2 .taken,
-      sym (c .before .before .before .has-loss .ensures) ∙ c .before .before .if3 .taken,
+      sym (c .before .before .before .before .before .supply-is-within-limits .ensures) ∙ c .before .before .before .before .if2 .taken,
+      sym (c .before .before .before .loss-is-within-limits .ensures) ∙ c .before .before .if3 .taken,
       sym (c .before .is-matched .ensures) ∙ c .if4 .left,
     )
 
@@ -44,8 +44,8 @@ pub source-is-intact-spec : {M : Type 1} → statement M
 source-is-intact-spec =
     tie.close
     (tie.spec
-    has-site-requires
-    has-loss-requires
+    supply-is-within-limits-requires
+    loss-is-within-limits-requires
     is-matched-requires
     returns
     returns-2

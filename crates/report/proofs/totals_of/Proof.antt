@@ -9,8 +9,8 @@ use Rattle.emissions.specs.declared.Side.the-variants.{Project}
 use Rattle.report.specs.Report.{comparesFactor, comparesLoss}
 use Rattle.report.specs.Intact.{sourceIntact}
 use Rattle.records.specs.Records.{sourcePlace}
-use Rattle.report.specs.Steps.{Small, totalsWith, totalsOf}
-use Rattle.report.proofs.Summing.{source-at, intact-at, onTo, total-start, total-turn, total-end, small-none, small-more, small-next}
+use Rattle.report.specs.Steps.{ConsumptionWithin, totalsWith, totalsOf}
+use Rattle.report.proofs.Summing.{source-at, intact-at, onTo, total-start, total-turn, total-end, within-none, within-more, within-next}
 use Rattle.report.proofs.totals_of.Statement.{statement}
 use Rattle.report.proofs.totals_of.Tie as tie
 
@@ -19,8 +19,8 @@ Inv-loop sources totals₀ i₀ totals i =
     (i ≤ 32)
     × (onTo comparesFactor (totals .factor) (sourcePlace sources) 32 i ≡ totalsOf (sourcePlace sources) .factor)
     × (onTo comparesLoss (totals .loss) (sourcePlace sources) 32 i ≡ totalsOf (sourcePlace sources) .loss)
-    × Small i (totals .factor)
-    × Small i (totals .loss)
+    × ConsumptionWithin i (totals .factor)
+    × ConsumptionWithin i (totals .loss)
 
 abbrev μ-loop : tie.MeasureT-loop
 μ-loop sources totals₀ i₀ totals i = 32 - i
@@ -41,8 +41,8 @@ loop-holds c =
       zero-le,
       rw (c .before .share-of .ensures) (total-start comparesFactor Project place),
       rw (c .share-of2 .ensures) (total-start comparesLoss Project place),
-      rw (c .before .share-of .ensures) (small-none Project),
-      rw (c .share-of2 .ensures) (small-none Project),
+      rw (c .before .share-of .ensures) (within-none Project),
+      rw (c .share-of2 .ensures) (within-none Project),
     )
 
 mul-held : tie.Need-mul-held Inv-loop μ-loop
@@ -57,8 +57,8 @@ with-source-requires c κs =
     let a = b .before .before in
     let rs = a .before .args .t1 in
     let h = c .before .loop-test .taken in (
-      small-more (omega arith) (b .loop .inv .3),
-      small-more (omega arith) (b .loop .inv .4),
+      within-more (omega arith) (b .loop .inv .3),
+      within-more (omega arith) (b .loop .inv .4),
       ap sourceIntact (source-at rs (b .loop .i) _ (inside (c .before)))
           ∙ intact-at sourceIntact (sourcePlace rs) 32 (b .loop .i) (a .before .pre) h,
     )
@@ -83,8 +83,8 @@ loop-again c =
       search needs,
       rw e (total-turn comparesFactor (t .factor) place 32 i h ∙ b .loop .inv .1),
       rw e (total-turn comparesLoss (t .loss) place 32 i h ∙ b .loop .inv .2),
-      rw e (small-next comparesFactor i (t .factor) (place i) k (b .loop .inv .3)),
-      rw e (small-next comparesLoss i (t .loss) (place i) k (b .loop .inv .4)),
+      rw e (within-next comparesFactor i (t .factor) (place i) k (b .loop .inv .3)),
+      rw e (within-next comparesLoss i (t .loss) (place i) k (b .loop .inv .4)),
     )
 
 returns : tie.Need-returns Inv-loop μ-loop

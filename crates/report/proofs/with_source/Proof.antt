@@ -3,7 +3,7 @@ use borrow.Author.Needs.{needs}
 use Prim.Native.Nat.{_≤_}
 use Rattle.metering.specs.Reading.{limit}
 use Rattle.records.specs.Records.{heldSource}
-use Rattle.report.proofs.Summing.{source-fits, share-small}
+use Rattle.report.proofs.Summing.{source-fits, share-within}
 use Rattle.report.proofs.with_source.Statement.{statement}
 use Rattle.report.proofs.with_source.Tie as tie
 
@@ -19,7 +19,7 @@ share-of-requires c κs = search needs
 plus-requires : tie.Need-plus-requires
 plus-requires c κs =
     let b = c .before .before in
-    (b .before .pre .0, rw (c .share-of .ensures) (share-small (b .before .args .held .side) _ (c .before .compares-factor .result) (within b)))
+    (b .before .pre .0, rw (c .share-of .ensures) (share-within (b .before .args .held .side) _ (c .before .compares-factor .result) (within b)))
 
 compares-loss-requires : tie.Need-compares-loss-requires
 compares-loss-requires c κs = search needs
@@ -30,7 +30,7 @@ share-of-requires-2 c κs = search needs
 plus-requires-2 : tie.Need-plus-requires-2
 plus-requires-2 c κs =
     let b = c .before .before .before .before .before in
-    (b .before .pre .1, rw (c .share-of2 .ensures) (share-small (b .before .args .held .side) _ (c .before .compares-loss .result) (within b)))
+    (b .before .pre .1, rw (c .share-of2 .ensures) (share-within (b .before .args .held .side) _ (c .before .compares-loss .result) (within b)))
 
 returns : tie.Need-returns
 returns c =

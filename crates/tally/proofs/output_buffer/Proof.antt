@@ -1,4 +1,4 @@
--- The length of the zeros, by a law: the list is not computed.
+-- `tally::output_buffer` meets its contract: the length of the zeros by a law, so that the list is not computed. Assumes nothing.
 use mathlib.Core.Path.{_≡_, refl, sym, ap, _∙_}
 use mathlib.Core.List.{List}
 use Prim.Native.Nat.{ℕ}

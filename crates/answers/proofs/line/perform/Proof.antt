@@ -17,8 +17,8 @@ enum-told-2 c = search needs
 enter-grid-requires : tie.Need-enter-grid-requires
 enter-grid-requires c κs = search needs
 
-entered-requires : tie.Need-entered-requires
-entered-requires c κs = search needs
+changed-requires : tie.Need-changed-requires
+changed-requires c κs = search needs
 
 enum-told-3 : tie.Need-enum-told-3
 enum-told-3 c = search needs
@@ -26,8 +26,8 @@ enum-told-3 c = search needs
 enter-plant-requires : tie.Need-enter-plant-requires
 enter-plant-requires c κs = search needs
 
-entered-requires-2 : tie.Need-entered-requires-2
-entered-requires-2 c κs = search needs
+changed-requires-2 : tie.Need-changed-requires-2
+changed-requires-2 c κs = search needs
 
 enum-told-4 : tie.Need-enum-told-4
 enum-told-4 c = search needs
@@ -35,8 +35,8 @@ enum-told-4 c = search needs
 enter-source-requires : tie.Need-enter-source-requires
 enter-source-requires c κs = search needs
 
-entered-requires-3 : tie.Need-entered-requires-3
-entered-requires-3 c κs = search needs
+changed-requires-3 : tie.Need-changed-requires-3
+changed-requires-3 c κs = search needs
 
 enum-told-5 : tie.Need-enum-told-5
 enum-told-5 c = search needs
@@ -44,8 +44,8 @@ enum-told-5 c = search needs
 drop-plant-requires : tie.Need-drop-plant-requires
 drop-plant-requires c κs = search needs
 
-entered-requires-4 : tie.Need-entered-requires-4
-entered-requires-4 c κs = search needs
+changed-requires-4 : tie.Need-changed-requires-4
+changed-requires-4 c κs = search needs
 
 enum-told-6 : tie.Need-enum-told-6
 enum-told-6 c = search needs
@@ -53,8 +53,8 @@ enum-told-6 c = search needs
 drop-source-requires : tie.Need-drop-source-requires
 drop-source-requires c κs = search needs
 
-entered-requires-5 : tie.Need-entered-requires-5
-entered-requires-5 c κs = search needs
+changed-requires-5 : tie.Need-changed-requires-5
+changed-requires-5 c κs = search needs
 
 enum-told-7 : tie.Need-enum-told-7
 enum-told-7 c = search needs
@@ -68,27 +68,27 @@ returns c = rw (c .before .enum-told .given .1) (c .refused-14 .ensures)
 returns-2 : tie.Need-returns-2
 returns-2 c =
     rw (c .before .before .enum-told2 .given .1)
-    (c .entered .ensures .0 ∙ c .before .enter-grid .ensures .0, c .entered .ensures .1 ∙ c .before .enter-grid .ensures .1)
+    (c .changed .ensures .0 ∙ c .before .enter-grid .ensures .0, c .changed .ensures .1 ∙ c .before .enter-grid .ensures .1)
 
 returns-3 : tie.Need-returns-3
 returns-3 c =
     rw (c .before .before .enum-told3 .given .1)
-    (c .entered2 .ensures .0 ∙ c .before .enter-plant .ensures .0, c .entered2 .ensures .1 ∙ c .before .enter-plant .ensures .1)
+    (c .changed2 .ensures .0 ∙ c .before .enter-plant .ensures .0, c .changed2 .ensures .1 ∙ c .before .enter-plant .ensures .1)
 
 returns-4 : tie.Need-returns-4
 returns-4 c =
     rw (c .before .before .enum-told4 .given .1)
-    (c .entered3 .ensures .0 ∙ c .before .enter-source .ensures .0, c .entered3 .ensures .1 ∙ c .before .enter-source .ensures .1)
+    (c .changed3 .ensures .0 ∙ c .before .enter-source .ensures .0, c .changed3 .ensures .1 ∙ c .before .enter-source .ensures .1)
 
 returns-5 : tie.Need-returns-5
 returns-5 c =
     rw (c .before .before .enum-told5 .given .1)
-    (c .entered4 .ensures .0 ∙ c .before .drop-plant .ensures .0, c .entered4 .ensures .1 ∙ c .before .drop-plant .ensures .1)
+    (c .changed4 .ensures .0 ∙ c .before .drop-plant .ensures .0, c .changed4 .ensures .1 ∙ c .before .drop-plant .ensures .1)
 
 returns-6 : tie.Need-returns-6
 returns-6 c =
     rw (c .before .before .enum-told6 .given .1)
-    (c .entered5 .ensures .0 ∙ c .before .drop-source .ensures .0, c .entered5 .ensures .1 ∙ c .before .drop-source .ensures .1)
+    (c .changed5 .ensures .0 ∙ c .before .drop-source .ensures .0, c .changed5 .ensures .1 ∙ c .before .drop-source .ensures .1)
 
 returns-7 : tie.Need-returns-7
 unfolding step
@@ -102,19 +102,19 @@ perform-spec =
     refused-14-requires
     enum-told-2
     enter-grid-requires
-    entered-requires
+    changed-requires
     enum-told-3
     enter-plant-requires
-    entered-requires-2
+    changed-requires-2
     enum-told-4
     enter-source-requires
-    entered-requires-3
+    changed-requires-3
     enum-told-5
     drop-plant-requires
-    entered-requires-4
+    changed-requires-4
     enum-told-6
     drop-source-requires
-    entered-requires-5
+    changed-requires-5
     enum-told-7
     reported-requires
     returns

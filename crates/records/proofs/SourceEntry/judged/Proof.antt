@@ -17,23 +17,23 @@ use Rattle.records.proofs.SourceEntry.judged.Tie as tie
 returns : tie.Need-returns
 returns c = let a = c .before .args in sym (source-number (a .number) (a .self) (c .if1 .taken))
 
-has-site-requires : tie.Need-has-site-requires
-has-site-requires c κs = search needs
+supply-is-within-limits-requires : tie.Need-supply-is-within-limits-requires
+supply-is-within-limits-requires c κs = search needs
 
 returns-2 : tie.Need-returns-2
 returns-2 c =
     let a = c .before .before .before .args in
-    sym (source-site (a .number) (a .self) (c .before .before .if1 .left) (tested _ _ (c .before .has-site .ensures) true (c .if2 .taken)))
+    sym (source-site (a .number) (a .self) (c .before .before .if1 .left) (tested _ _ (c .before .supply-is-within-limits .ensures) true (c .if2 .taken)))
 
-has-loss-requires : tie.Need-has-loss-requires
-has-loss-requires c κs = search needs
+loss-is-within-limits-requires : tie.Need-loss-is-within-limits-requires
+loss-is-within-limits-requires c κs = search needs
 
 returns-3 : tie.Need-returns-3
 returns-3 c =
     let a = c .before .before .before .before .before .args in
     sym (source-loss (a .number) (a .self) (c .before .before .before .before .if1 .left)
-    (tested _ _ (c .before .before .before .has-site .ensures) false (c .before .before .if2 .left))
-    (tested _ _ (c .before .has-loss .ensures) true (c .if3 .taken)))
+    (tested _ _ (c .before .before .before .supply-is-within-limits .ensures) false (c .before .before .if2 .left))
+    (tested _ _ (c .before .loss-is-within-limits .ensures) true (c .if3 .taken)))
 
 direction-requires : tie.Need-direction-requires
 direction-requires c κs = search needs
@@ -47,8 +47,8 @@ past : (c : tie.After-judge-meters) (j : MetersJudged) → c .judge-meters .resu
 past c j e =
     let a = c .before .before .before .before .before .before .before .before .args in
     source-sums (a .number) (a .self) (c .before .before .before .before .before .before .before .if1 .left)
-    (tested _ _ (c .before .before .before .before .before .before .has-site .ensures) false (c .before .before .before .before .before .if2 .left))
-    (tested _ _ (c .before .before .before .before .has-loss .ensures) false (c .before .before .before .if3 .left)) j
+    (tested _ _ (c .before .before .before .before .before .before .supply-is-within-limits .ensures) false (c .before .before .before .before .before .if2 .left))
+    (tested _ _ (c .before .before .before .before .loss-is-within-limits .ensures) false (c .before .before .before .if3 .left)) j
     (sym (c .judge-meters .ensures ∙ ap (λ (d : Direction). judgedMeters d (a .self .count) (a .self .meters)) (c .before .direction .ensures)) ∙ e)
 
 enum-known-sums : tie.Need-enum-known-sums
@@ -117,9 +117,9 @@ judged-spec =
     tie.close
     (tie.spec
     returns
-    has-site-requires
+    supply-is-within-limits-requires
     returns-2
-    has-loss-requires
+    loss-is-within-limits-requires
     returns-3
     direction-requires
     judge-meters-requires
