@@ -1,5 +1,5 @@
 // Meters: from register to a source's energy in whole watt-hours (document 01, "From register to
-// watt-hours"). The box has no floating-point unit: a register is read by the integers of its bits.
+// watt-hours"). We take it that the box has no floating-point unit: a register is read by the integers of its bits.
 ghost use mathlib.Core.Path.{_≡_};
 ghost use mathlib.Core.Bool.{true};
 ghost use Prim.Native.Nat.{_≤_, _<_};

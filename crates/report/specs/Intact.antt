@@ -1,6 +1,7 @@
 -- Whether what a ledger shows meets the limits that an accepted entry meets. A ledger that a list of calls leaves does.
 use Prim.Native.Nat.{ℕ, zero, suc}
 use mathlib.Core.Bool.{Bool, true, false, _&&_}
+use mathlib.Core.List.{List}
 use mathlib.Core.Option.{Option, none, some}
 use lib.Dec.{leb}
 use Rattle.metering.specs.Reading.{limit}
@@ -9,8 +10,11 @@ use Rattle.emissions.specs.Factor.{factorLimit}
 use Rattle.emissions.specs.declared.Grid.{Grid}
 use Rattle.emissions.specs.declared.Grid.the-variants.{Absent, Entered}
 use Rattle.records.specs.Judging.{plantJudged, supplyWithinLimits, lossWithinLimits, lossMatches}
+use Rattle.records.specs.Records.{plantPlace, sourcePlace}
 use Rattle.records.specs.declared.Plant.{Plant}
+use Rattle.records.specs.declared.PlantRecord.{PlantRecord}
 use Rattle.records.specs.declared.Source.{Source}
+use Rattle.records.specs.declared.SourceRecord.{SourceRecord}
 
 abbrev pub gridIntact : Grid → Bool
 gridIntact Absent = true
@@ -31,3 +35,10 @@ sourceIntact (some s) = supplyWithinLimits (s .supply) && lossWithinLimits (s .l
 unfoldable pub allIntact : {A : Type 0} → (Option A → Bool) → (ℕ → Option A) → ℕ → Bool
 allIntact p place zero = true
 allIntact p place (suc n) = p (place n) && allIntact p place n
+
+-- Of all records of plants, and of sources ("Sources are numbered 0 to 31, plants 0 to 7").
+abbrev pub plantsIntact : List PlantRecord → Bool
+plantsIntact plants = allIntact plantIntact (plantPlace plants) 8
+
+abbrev pub sourcesIntact : List SourceRecord → Bool
+sourcesIntact sources = allIntact sourceIntact (sourcePlace sources) 32

@@ -9,8 +9,8 @@ ghost use Rattle.emissions.specs.Factor.{direction, siteNamed};
 ghost use Rattle.emissions.specs.Steps.{atNamed};
 ghost use Rattle.report.specs.Report.{comparesFactor, comparesLoss, plantMilligrams, siteOf, captiveAt, figuresFrom, sourcesOf, reportOf, checkedReportOf, inputOfRecords, plainOf};
 ghost use Rattle.records.specs.Judging.{lastPlant, lastSource, generationLimit};
-ghost use Rattle.records.specs.Records.{plantIn, sourceIn, plantPlace, sourcePlace};
-ghost use Rattle.report.specs.Intact.{plantIntact, sourceIntact, gridIntact, allIntact};
+ghost use Rattle.records.specs.Records.{plantIn, sourceIn, sourcePlace};
+ghost use Rattle.report.specs.Intact.{plantIntact, sourceIntact, gridIntact, plantsIntact, sourcesIntact};
 ghost use mathlib.Core.Option.{some};
 ghost use Rattle.report.specs.Answers.{sideMeaning, reportMeaning};
 ghost use Rattle.report.specs.Steps.{sitePlants, share, summed, ConsumptionWithin, totalsWith, totalsOf, siteWith, figureAt, parts, figureMeaning, FigureWithin, figureRefusal, noSums, withGrams, Bounded, walkedOf, sideFrom, reductionOf, reportedOf, plantBound, figureBound, tonnesBound, SideBounded};
@@ -199,7 +199,7 @@ fn with_source(totals: Totals, held: SourceRecord) -> Totals
 
 // P, B, P' and B' of the sources that stand, in one pass.
 fn totals_of(sources: [SourceRecord; Source::PLACES]) -> Totals
-    requires { ⌜ allIntact sourceIntact (sourcePlace sources) 32 ≡ true ⌝ }
+    requires { ⌜ sourcesIntact sources ≡ true ⌝ }
     ensures { λ r. ⌜ r ≡ totalsOf (sourcePlace sources) ⌝ }
 {
     let mut totals = Totals {
@@ -255,7 +255,7 @@ fn with_plant(sums: SiteSums, held: PlantRecord, site: u8, direction: Direction)
 
 // The milligrams and the generation of the plants at a site, in one pass.
 fn site_sums(plants: [PlantRecord; Plant::PLACES], site: u8, direction: Direction) -> SiteSums
-    requires { ⌜ allIntact plantIntact (plantPlace plants) 8 ≡ true ⌝ }
+    requires { ⌜ plantsIntact plants ≡ true ⌝ }
     ensures { λ r. ⌜ (r .milligrams ≡ siteOf (sitePlants plants) site .milligrams direction) × (r .generation ≡ siteOf (sitePlants plants) site .generation) ⌝ }
 {
     let mut sums = SiteSums {
@@ -273,7 +273,7 @@ fn site_sums(plants: [PlantRecord; Plant::PLACES], site: u8, direction: Directio
 
 // The captive factor of a site in a direction, or refusal 9 or 10.
 fn site_factor(plants: [PlantRecord; Plant::PLACES], site: u8, direction: Direction) -> FactorJudged
-    requires { ⌜ allIntact plantIntact (plantPlace plants) 8 ≡ true ⌝ }
+    requires { ⌜ plantsIntact plants ≡ true ⌝ }
     ensures { λ r. ⌜ factorMeaning r ≡ captiveAt direction (sitePlants plants) site ⌝ }
 {
     let sums = site_sums(plants, site, direction);
@@ -286,7 +286,7 @@ fn named_site_factor(
     supply: Supply,
     direction: Direction,
 ) -> FactorJudged
-    requires { ⌜ allIntact plantIntact (plantPlace plants) 8 ≡ true ⌝ }
+    requires { ⌜ plantsIntact plants ≡ true ⌝ }
     ensures { λ r. ⌜ factorMeaning r ≡ atNamed (captiveAt direction (sitePlants plants)) (siteNamed supply) ⌝ }
 {
     let named = supply.site();
@@ -304,7 +304,7 @@ fn source_figure(
     totals: Totals,
     source: Source,
 ) -> FigureJudged
-    requires { ⌜ (gridIntact grid ≡ true) × (allIntact plantIntact (plantPlace plants) 8 ≡ true) × (sourceIntact (some source) ≡ true) ⌝ }
+    requires { ⌜ (gridIntact grid ≡ true) × (plantsIntact plants ≡ true) × (sourceIntact (some source) ≡ true) ⌝ }
     ensures figure { λ r. ⌜ figureMeaning r ≡ parts (figureAt grid (sitePlants plants) totals source) ⌝ }
     ensures bound { λ r. ⌜ FigureWithin r ⌝ }
 {
@@ -403,7 +403,7 @@ fn walk(
     sources: [SourceRecord; Source::PLACES],
     totals: Totals,
 ) -> Walked
-    requires { ⌜ (gridIntact grid ≡ true) × (allIntact plantIntact (plantPlace plants) 8 ≡ true) × (allIntact sourceIntact (sourcePlace sources) 32 ≡ true) × (totals ≡ totalsOf (sourcePlace sources)) ⌝ }
+    requires { ⌜ (gridIntact grid ≡ true) × (plantsIntact plants ≡ true) × (sourcesIntact sources ≡ true) × (totals ≡ totalsOf (sourcePlace sources)) ⌝ }
     ensures { λ r. ⌜ r ≡ walkedOf (figuresFrom (inputOfRecords grid plants sources) (sourcesOf (inputOfRecords grid plants sources))) ⌝ }
 {
     let mut sums = Sums::empty();
@@ -518,7 +518,7 @@ fn source_is_intact(held: SourceRecord) -> bool
 
 // These two look at every record: a loop that ends early is unrolled with a copy of the array in parts.
 fn plants_are_intact(plants: [PlantRecord; Plant::PLACES]) -> bool
-    ensures { λ r. ⌜ r ≡ allIntact plantIntact (plantPlace plants) 8 ⌝ }
+    ensures { λ r. ⌜ r ≡ plantsIntact plants ⌝ }
 {
     let mut intact = true;
     let mut i = 0;
@@ -531,7 +531,7 @@ fn plants_are_intact(plants: [PlantRecord; Plant::PLACES]) -> bool
 }
 
 fn sources_are_intact(sources: [SourceRecord; Source::PLACES]) -> bool
-    ensures { λ r. ⌜ r ≡ allIntact sourceIntact (sourcePlace sources) 32 ⌝ }
+    ensures { λ r. ⌜ r ≡ sourcesIntact sources ⌝ }
 {
     let mut intact = true;
     let mut i = 0;
@@ -549,7 +549,7 @@ fn answer(
     plants: [PlantRecord; Plant::PLACES],
     sources: [SourceRecord; Source::PLACES],
 ) -> Reported
-    requires { ⌜ (gridIntact grid ≡ true) × (allIntact plantIntact (plantPlace plants) 8 ≡ true) × (allIntact sourceIntact (sourcePlace sources) 32 ≡ true) ⌝ }
+    requires { ⌜ (gridIntact grid ≡ true) × (plantsIntact plants ≡ true) × (sourcesIntact sources ≡ true) ⌝ }
     ensures { λ r. ⌜ reportMeaning r ≡ reportOf (inputOfRecords grid plants sources) ⌝ }
 {
     let walked = walk(grid, plants, sources, totals_of(sources));
