@@ -9,12 +9,13 @@ import sys
 from typing import NamedTuple
 
 import reference
+from reference import DEMAND_3, Broken
 
 
 class Case(NamedTuple):
     name: str
     lines: list[str]
-    edited: dict  # a constant of reference.demand_3, made smaller
+    edited: reference.Constants  # one of them made smaller
     breaks: tuple  # the inequalities, by `what`, that then fail
 
 
@@ -32,7 +33,7 @@ def gap_by_factor() -> Case:
     return Case('gap, 13 -> 12',
                 ['(grid 10000000 thermal)',
                  f'(source 0 project (combined) (loss 5000) {" ".join(meters)})'],
-                {'factor_multiple': 12}, ('gap 0 by F and U, g',))
+                DEMAND_3._replace(factor_multiple=12), ('gap 0 by F and U, g',))
 
 
 def plants_with_32_lines(whole: int) -> list[str]:
@@ -55,12 +56,12 @@ def one_source_on_32_lines() -> list[str]:
 
 def gap_by_energy() -> Case:
     return Case('gap, 11 -> 10', one_source_on_32_lines(),
-                {'energy_multiple': 10}, ('gap 0 by F and U, g',))
+                DEMAND_3._replace(energy_multiple=10), ('gap 0 by F and U, g',))
 
 
 def gap_by_weight() -> Case:
     return Case('gap, 200 -> 150 kg', one_source_on_32_lines(),
-                {'gap_kilograms': 150}, ('gap 0 by weight, g',))
+                DEMAND_3._replace(gap_kilograms=150), ('gap 0 by weight, g',))
 
 
 def energy_for(grams: int, factor: int, slack: int) -> int:
@@ -81,7 +82,8 @@ def allowances() -> Case:
         either(31, 'baseline', energy_for(baseline, 99, 2))]
     return Case('allowance a source, 200 -> 150 kg',
                 ['(grid 100 thermal)', *plants_with_32_lines(99), *sources],
-                {'allowance_kilograms': 150}, ('project, t', 'leakage, t', 'reduction, t'))
+                DEMAND_3._replace(allowance_kilograms=150),
+                ('project, t', 'leakage, t', 'reduction, t'))
 
 
 def three_sides() -> list[str]:
@@ -93,12 +95,12 @@ def three_sides() -> list[str]:
 
 
 def reduction_by_tonnes() -> Case:
-    return Case('reduction, 3 -> 2 t', three_sides(), {'reduction_tonnes': 2},
+    return Case('reduction, 3 -> 2 t', three_sides(), DEMAND_3._replace(reduction_tonnes=2),
                 ('reduction, t',))
 
 
 def side_by_tonnes() -> Case:
-    return Case('side, 1 -> 0 t', three_sides(), {'side_tonnes': 0},
+    return Case('side, 1 -> 0 t', three_sides(), DEMAND_3._replace(side_tonnes=0),
                 ('project, t', 'leakage, t', 'baseline, t'))
 
 
@@ -113,13 +115,15 @@ def text(case: Case) -> bytes:
 def check(case: Case):
     given = []
     reference.tally(text(case), on_report=lambda *both: given.append(both))
-    assert len(given) == 1, f'{case.name}: report refused'
+    if len(given) != 1:
+        raise Broken(f'{case.name}: report refused')
     ledger, report = given[0]
     reference.check_demand_3(ledger, report)
     true = {i.what: i for i in reference.demand_3(ledger, report)}
-    edited = reference.demand_3(ledger, report, **case.edited)
+    edited = reference.demand_3(ledger, report, case.edited)
     broken = [i for i in edited if not i.holds]
-    assert tuple(i.what for i in broken) == case.breaks, f'{case.name}: breaks {broken}'
+    if tuple(i.what for i in broken) != case.breaks:
+        raise Broken(f'{case.name}: breaks {broken}')
     print(f'{case.name}: ' + '; '.join(
         f'{what} off by {float(off):.6f}, limit {float(true[what].limit):.6f}, '
         f'edited {float(limit):.6f}' for what, off, limit in broken))
@@ -130,7 +134,7 @@ def main() -> int:
     for make in CASES:
         try:
             check(make())
-        except AssertionError as error:
+        except Broken as error:
             failed += 1
             print(error)
     print(f'{len(CASES) - failed} passed, {failed} failed')

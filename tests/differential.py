@@ -121,7 +121,7 @@ def wrong_with(program: Path, case: Case, met: generate.Met) -> str:
     """'' for an input that passes; counts in `met` what it meets."""
     try:
         expected = met.run(case.data)
-    except AssertionError as error:
+    except reference.Broken as error:
         return f'demand 3: {error}'
     return difference(run(program, case), expected)
 

@@ -106,17 +106,22 @@ def judge_meters(side: str, meters: list[Meter]) -> int | tuple[int, int]:
     return meter_sums(rounds_up(side), meters)
 
 
+def meter_readings(up: bool, meter: Meter) -> tuple[int, int]:
+    """First and last in whole Wh. For project and leakage "a + meter takes last up and
+    first down, and a - meter takes last down and first up"; for baseline "each is the
+    opposite"."""
+    last_up = up if meter.sign == '+' else not up
+    return (reading_watt_hours(meter.kind, meter.first, not last_up),
+            reading_watt_hours(meter.kind, meter.last, last_up))
+
+
 def meter_sums(up: bool, meters: list[Meter]) -> tuple[int, int]:
-    """For project and leakage "a + meter takes last up and first down, and a
-    - meter takes last down and first up"; for baseline "each is the opposite"."""
+    """The watt-hours that add and those that take: a + meter's last adds, a - meter's first."""
     adds = takes = 0
     for meter in meters:
-        if meter.sign == '+':
-            adds += reading_watt_hours(meter.kind, meter.last, up)
-            takes += reading_watt_hours(meter.kind, meter.first, not up)
-        else:
-            adds += reading_watt_hours(meter.kind, meter.first, up)
-            takes += reading_watt_hours(meter.kind, meter.last, not up)
+        first, last = meter_readings(up, meter)
+        adds += last if meter.sign == '+' else first
+        takes += first if meter.sign == '+' else last
     return adds, takes
 
 
@@ -351,12 +356,16 @@ def generation_at(ledger: Ledger, site: int) -> int:
     return sum(plant.generation for plant in plants_at(ledger, site))
 
 
+def factor_over(milligrams: int, generation: int, up: bool) -> int:
+    return rounded(Fraction(milligrams, generation), up)
+
+
 def captive_factor(ledger: Ledger, site: int, up: bool) -> int:
     # "F is the sum of these rounded lines over the plants' summed generation in kWh"
     milligrams = sum(fuel_milligrams(*line, up)
                      for plant in plants_at(ledger, site)
                      for line in plant.fuel_lines)
-    return rounded(Fraction(milligrams, generation_at(ledger, site)), up)
+    return factor_over(milligrams, generation_at(ledger, site), up)
 
 
 def emission_factor(ledger: Ledger, source: Source) -> tuple[str, int]:
@@ -397,15 +406,23 @@ def figure_refused(ledger: Ledger, source: Source) -> int | None:
     return OK
 
 
-def source_figure(ledger: Ledger, source: Source) -> Figure:
+def energy_with_losses(E: int, T: int, up: bool) -> int:
     # "U is E × (10,000 + T) ÷ 10,000"
+    return rounded(Fraction(E * (10_000 + T), 10_000), up)
+
+
+def source_grams(U: int, F: int, up: bool) -> int:
     # "The source figure in grams is U × F ÷ 1,000,000."
+    return rounded(Fraction(U * F, 1_000_000), up)
+
+
+def source_figure(ledger: Ledger, source: Source) -> Figure:
     up = rounds_up(source.side)
     E = source.energy
     T = transmission_loss(ledger, source)
-    U = rounded(Fraction(E * (10_000 + T), 10_000), up)
+    U = energy_with_losses(E, T, up)
     option, F = emission_factor(ledger, source)
-    return Figure(E, T, U, option, F, rounded(Fraction(U * F, 1_000_000), up))
+    return Figure(E, T, U, option, F, source_grams(U, F, up))
 
 
 def numbers_of(ledger: Ledger, side: str) -> list[int]:
@@ -425,19 +442,25 @@ def report(ledger: Ledger) -> Report | Refused:
     sides = {side: side_report(ledger, figures, side) for side in SIDES}
     if any(side.grams > 1_000_000_000_000_000 for side in sides.values()):
         return Refused(13)
+    return Report(figures, sides, reduction_of(sides))
+
+
+def reduction_of(sides: dict[str, SideReport]) -> int:
     # "baseline less project less leakage tonnes, signed"
-    reduction = (sides['baseline'].tonnes - sides['project'].tonnes
-                 - sides['leakage'].tonnes)
-    return Report(figures, sides, reduction)
+    return (sides['baseline'].tonnes - sides['project'].tonnes
+            - sides['leakage'].tonnes)
+
+
+def side_tonnes(grams: int, up: bool) -> int:
+    # "its tonnes (grams ÷ 1,000,000, rounded as the side)"
+    return rounded(Fraction(grams, 1_000_000), up)
 
 
 def side_report(ledger: Ledger, figures: dict, side: str) -> SideReport:
-    # "its grams (sum of source figures), its tonnes (grams ÷ 1,000,000, rounded as
-    # the side) and its number of standing sources"
+    # "its grams (sum of source figures), its tonnes .. and its number of standing sources"
     numbers = numbers_of(ledger, side)
     grams = sum(figures[number].grams for number in numbers)
-    tonnes = rounded(Fraction(grams, 1_000_000), rounds_up(side))
-    return SideReport(tonnes, grams, len(numbers))
+    return SideReport(side_tonnes(grams, rounds_up(side)), grams, len(numbers))
 
 
 # 7. Exact values, and how near the report is to them
@@ -485,11 +508,28 @@ def gap(ledger: Ledger, given: Report, number: int) -> Fraction:
     return excess(source.side, figure.grams, exact_figure(ledger, source, figure))
 
 
-def gap_limit(figure: Figure, factor_multiple: int = 13,
-              energy_multiple: int = 11) -> Fraction:
+class Constants(NamedTuple):
+    """Those of demand 3; tests/counterexamples.py makes each one smaller."""
+
+    factor_multiple: int = 13
+    energy_multiple: int = 11
+    gap_kilograms: int = 200
+    side_tonnes: int = 1
+    reduction_tonnes: int = 3
+    allowance_kilograms: int = 200  # a standing source
+
+
+DEMAND_3 = Constants()
+
+
+class Broken(Exception):
+    """An inequality of demand 3, or what a check asks for, does not hold."""
+
+
+def gap_limit(figure: Figure, constants: Constants = DEMAND_3) -> Fraction:
     # "1 + (13 × (F + 2) + 11 × U ÷ 10) ÷ 1,000,000 grams"
-    milligrams = (factor_multiple * (figure.factor + 2)
-                  + Fraction(energy_multiple * figure.energy_with_losses, 10))
+    milligrams = (constants.factor_multiple * (figure.factor + 2)
+                  + Fraction(constants.energy_multiple * figure.energy_with_losses, 10))
     return 1 + milligrams / 1_000_000
 
 
@@ -505,37 +545,36 @@ class Inequality(NamedTuple):
         return 0 <= self.off < self.limit
 
 
-def demand_3(ledger: Ledger, report: Report, *, factor_multiple: int = 13,
-             energy_multiple: int = 11, gap_kilograms: int = 200, side_tonnes: int = 1,
-             reduction_tonnes: int = 3, allowance_kilograms: int = 200) -> list[Inequality]:
+def demand_3(ledger: Ledger, report: Report,
+             constants: Constants = DEMAND_3) -> list[Inequality]:
     """Each inequality of demand 3 at a report given on what stands."""
-    allowance = Fraction(allowance_kilograms, 1_000)  # tonnes a standing source
+    allowance = Fraction(constants.allowance_kilograms, 1_000)  # tonnes a standing source
     inequalities = []
     for number, figure in report.figures.items():
         off = gap(ledger, report, number)
-        limit = gap_limit(figure, factor_multiple, energy_multiple)
+        limit = gap_limit(figure, constants)
         inequalities.append(Inequality(f'gap {number} by F and U, g', off, limit))
-        weight = Fraction(gap_kilograms * 1_000)
+        weight = Fraction(constants.gap_kilograms * 1_000)
         inequalities.append(Inequality(f'gap {number} by weight, g', off, weight))
     for side in SIDES:
         off = excess(side, report.sides[side].tonnes, exact_side(ledger, report, side))
-        limit = side_tonnes + allowance * len(numbers_of(ledger, side))
+        limit = constants.side_tonnes + allowance * len(numbers_of(ledger, side))
         inequalities.append(Inequality(f'{side}, t', off, limit))
     off = exact_reduction(ledger, report) - report.reduction
-    limit = reduction_tonnes + allowance * len(ledger.sources)
+    limit = constants.reduction_tonnes + allowance * len(ledger.sources)
     return inequalities + [Inequality('reduction, t', off, limit)]
 
 
-def check_demand_3(ledger: Ledger, report: Report, **constants: int):
-    """Raises AssertionError where an inequality fails; `constants` as in demand_3."""
-    for what, off, limit in demand_3(ledger, report, **constants):
+def check_demand_3(ledger: Ledger, report: Report):
+    """Raises Broken where an inequality fails."""
+    for what, off, limit in demand_3(ledger, report):
         if off < 0:
-            raise AssertionError(f'{what}: on the unsafe side by {float(-off)}')
+            raise Broken(f'{what}: on the unsafe side by {float(-off)}')
         if off >= limit:
-            raise AssertionError(f'{what}: off by {float(off)}, limit {float(limit)}')
+            raise Broken(f'{what}: off by {float(off)}, limit {float(limit)}')
     for side in SIDES:
         if report.sides[side].sources != len(numbers_of(ledger, side)):
-            raise AssertionError(f'{side}: {report.sides[side].sources} sources reported')
+            raise Broken(f'{side}: {report.sides[side].sources} sources reported')
 
 
 # 8. The text

@@ -53,7 +53,7 @@ class Checks:
         try:
             reference.check_demand_3(ledger, report)
             found = True
-        except AssertionError:
+        except reference.Broken:
             found = False
         self.equal(f'demand 3 holds: {name}', found, holds)
 
