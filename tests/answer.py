@@ -1,155 +1,559 @@
-"""Writes docs/ANSWER.md: how a manager knows that a printed figure stands on the safe side.
+"""Writes docs/ANSWER.md: which of two totals is true, and how a manager knows that a printed figure is safe.
 
-The page follows the sources of the first report of examples/site.txt from meter to tonnes, with
-exact fractions, and shows at each step how far the figure leans and which allowance that uses up.
-`--check` compares the page with what would be written, and changes nothing.
+    answer.py              writes the page
+    answer.py --check      compares the page with what would be written, and looks up the laws
+                           that it names; changes nothing
+    answer.py --self-test  breaks one rounding after the other; each must be refused at its row
+
+The page follows the first report of examples/site.txt from meter to tonnes with exact fractions.
+Every number on it is computed. Each figure must lean to the safe side, by at least 0 and by less
+than the limit of its row; otherwise the row is named, nothing is written and the status is 1.
 """
 
+import ast
+import re
 import sys
+import tempfile
+import textwrap
+from contextlib import contextmanager
 from fractions import Fraction
 from pathlib import Path
+from typing import NamedTuple
 
 import reference
-from reference import (SIDES, Ledger, Meter, Report, Source, exact_energy, exact_factor,
-                       exact_figure, exact_reduction, exact_side, exact_watt_hours, excess,
-                       gap_limit, numbers_of, reading_watt_hours, rounds_up)
+from reference import (DEMAND_3, SIDES, Figure, Ledger, Meter, Report, Source, exact_energy,
+                       exact_factor, exact_figure, exact_fuel_milligrams, exact_reduction,
+                       exact_side, exact_watt_hours, excess, numbers_of, rounds_up)
 
 ROOT = Path(__file__).resolve().parent.parent
 EXAMPLE = ROOT / 'examples' / 'site.txt'
 PAGE = ROOT / 'docs' / 'ANSWER.md'
 
-HEAD = """# The answer to the manager
-
-*"How do you know that the printed figure stands on the safe side?"*
-
-Because every step from the meter to the printed tonne is rounded towards the safe side, project and leakage up, baseline down, and because a
-machine has checked a proof that this holds for every list of entries that a manager can type, not for the cases that somebody thought of. The
-proof also says how far the figure can be off at most: a figure that is safe because it is far too high would be worthless.
-
-The chain, with the names that the proof gives its links (docs/PROVED.md has all of them):
-
-| Step | Rounded | Off by less than | Proved by |
-|---|---|---|---|
-| reading, a register or a count, to watt-hours | what adds to a project source up, what is taken from it down; a baseline source the other way | 1 Wh | `watt-hours-rounds` |
-| readings of up to four meters to the energy E | not: a whole sum | 8 Wh in all | `energy-conservative` |
-| E with losses T to U | U = E × (10,000 + T) ÷ 10,000 | 13 Wh in all | `figure-conservative` |
-| fuel lines over generation to the factor F | each line, then the quotient | 1.1 mg/kWh | `chosen-sound` |
-| U × F ÷ 1,000,000 to grams | once more | 1 + (13 × (F + 2) + 11 × U ÷ 10) ÷ 1,000,000 g, below 200 kg | `figure-within-allowance`, `SourceSafe` |
-| grams of a side to tonnes | the sum, once | 1 t and 200 kg for each source | `SideSafe` |
-| baseline less project less leakage | not: a whole difference | 3 t and 200 kg for each source | `ReportSafe` |
-
-`demand-3` (crates/ledger/proofs/Demand3.antt) puts the links together, for every list of calls.
-
-## One report, followed with exact fractions
-
-Below is the first report of `examples/site.txt`; every number on this page is computed by `python3 tests/answer.py` with exact fractions from
-document 01's formulas, and the gate computes it again. "Leans" is how far the rounded figure stands on the safe side of the exact one: 0 or
-above means safe. A long fraction is shown by its first nine decimals.
-"""
+DECIMALS = 9  # shown of a number at most
+WIDTH = 140  # of a line of the page
 
 
-def grouped(number: int) -> str:
-    return f'{number:,}'
+# 1. The limits: how far a figure may lean to the safe side. Each is stated here alone.
+
+LEAST_LEAN = Fraction(0)
+METERS = 4  # of a source, with two readings each
+LOSS_UNITS = 10_000  # T counts parts of this
+LINE_DIVISOR = 1_000  # kJ a MJ
+MILLION = 1_000_000  # divides U × F to grams, and grams to tonnes
+
+READING_WH = Fraction(1)
+ENERGY_WH = 2 * METERS * READING_WH
+# The limit of E with the largest loss, and one more rounding.
+LOSSES_WH = ENERGY_WH * Fraction(LOSS_UNITS + reference.MEASURED_LOSS_LIMIT, LOSS_UNITS) + 1
+LINE_MG = Fraction(1)
+FACTOR_MG_PER_KWH = Fraction(11, 10)
+FACTOR_SLACK = 2  # covers that U and F lean at once: at least FACTOR_MG_PER_KWH
+GRAM = Fraction(1)
+SOURCE_KG = Fraction(DEMAND_3.gap_kilograms)
+SIDE_T = Fraction(DEMAND_3.side_tonnes)
+REDUCTION_T = Fraction(DEMAND_3.reduction_tonnes)
 
 
-def shown(value: Fraction) -> str:
-    """A whole part and a proper fraction; a long fraction by its first decimals."""
-    whole, part = divmod(value, 1)
-    if part == 0:
-        return grouped(int(whole))
-    if part.denominator < 10 ** 7:
-        text = f'{part.numerator}/{grouped(part.denominator)}'
-        return text if whole == 0 else f'{grouped(int(whole))} + {text}'
-    return f'{grouped(int(whole))}.{int(part * 10 ** 9):09d}..'
+def grams_limit(figure: Figure) -> Fraction:
+    return GRAM + (LOSSES_WH * (figure.factor + FACTOR_SLACK)
+                   + FACTOR_MG_PER_KWH * figure.energy_with_losses) / MILLION
 
 
-def row(*cells: str) -> str:
-    return '| ' + ' | '.join(cells) + ' |'
+def allowance(sources: int) -> Fraction:
+    """The tonnes that so many sources may be off."""
+    return sources * SOURCE_KG / 1_000
 
 
-def reading_rows(source: Source, number: int, meter: Meter) -> list[str]:
-    """The two readings of a meter, each with its direction."""
-    up = rounds_up(source.side) == (meter.sign == '+')
+# 2. Numbers as text
+
+
+def shown(value: Fraction | int) -> str:
+    """All decimals, or the first DECIMALS of them and '..' where more follow."""
+    scaled = abs(value) * 10 ** DECIMALS
+    whole, part = divmod(int(scaled), 10 ** DECIMALS)
+    decimals = f'{part:0{DECIMALS}d}'
+    more = '..' if scaled != int(scaled) else ''
+    text = f'{whole:,}.{decimals}{more}' if more else f'{whole:,}.{decimals}'.rstrip('0').rstrip('.')
+    return f'-{text}' if value < 0 else text
+
+
+def cells(*texts: str) -> str:
+    return '| ' + ' | '.join(texts) + ' |'
+
+
+def table(head: tuple, rows: list[str]) -> str:
+    return '\n'.join([cells(*head), '|' + '---|' * len(head), *rows])
+
+
+def paragraph(text: str) -> str:
+    return textwrap.fill(' '.join(text.split()), WIDTH, break_long_words=False,
+                         break_on_hyphens=False)
+
+
+# 3. The chain: each step with its limit and the law that proves it
+
+
+class Step(NamedTuple):
+    name: str
+    rounding: str
+    limit: str
+    laws: tuple[str, ...]
+
+
+AS_SIDE = 'project and leakage up, baseline down'
+A_SOURCE = f'{shown(SOURCE_KG)} kg for each'
+
+STEPS = {
+    'reading': Step('a reading, register or count, to Wh',
+                    'what adds to a project or leakage source up, what is taken from it down; '
+                    'for a baseline source the other way', f'{shown(READING_WH)} Wh',
+                    ('reading-conservative',)),
+    'energy': Step(f'E: the readings of up to {METERS} meters', 'not: a sum of whole numbers',
+                   f'{shown(ENERGY_WH)} Wh', ('energy-conservative',)),
+    'losses': Step(f'U = E × ({LOSS_UNITS:,} + T) ÷ {LOSS_UNITS:,}', AS_SIDE,
+                   f'{shown(LOSSES_WH)} Wh', ('losses-conservative',)),
+    'line': Step('a fuel line of a captive plant, to mg', AS_SIDE, f'{shown(LINE_MG)} mg',
+                 ('line-conservative',)),
+    'factor': Step("F: entered, or a default, or the site's fuel lines in mg ÷ its generation in kWh",
+                   AS_SIDE, f'{shown(FACTOR_MG_PER_KWH)} mg/kWh', ('chosen-sound',)),
+    'grams': Step(f'grams of a source = U × F ÷ {MILLION:,}', AS_SIDE,
+                  f'{shown(GRAM)} + ({shown(LOSSES_WH)} × (F + {FACTOR_SLACK}) + '
+                  f'{shown(FACTOR_MG_PER_KWH)} × U) ÷ {MILLION:,} g', ('figure-conservative',)),
+    'weight': Step('the same grams', 'as above', f'{shown(SOURCE_KG)} kg',
+                   ('figure-within-allowance',)),
+    'tonnes': Step(f"tonnes of a side = the sum of its sources' grams ÷ {MILLION:,}",
+                   f'the sum, once: {AS_SIDE}', f'{shown(SIDE_T)} t, and {A_SOURCE} of its sources',
+                   ('side-safe',)),
+    'reduction': Step('reduction = baseline less project less leakage tonnes',
+                      'not: a difference of whole numbers',
+                      f'{shown(REDUCTION_T)} t, and {A_SOURCE} source',
+                      ('reduction-safe', 'reduction-near')),
+}
+# demand-3 states the limits of the last four; the others are stated by their own laws.
+BY_OTHER_LAWS = ('reading', 'energy', 'losses', 'line', 'factor')
+
+
+def quoted(laws) -> str:
+    return ', '.join(f'`{law}`' for law in laws)
+
+
+def chain() -> str:
+    return table(('Step', 'Rounded', 'Off by less than', 'Proved by'),
+                 [cells(step.name, step.rounding, step.limit, quoted(step.laws))
+                  for step in STEPS.values()])
+
+
+# 4. Rows: a figure of the report beside its exact value
+
+
+class Row(NamedTuple):
+    step: str  # of STEPS
+    name: str
+    exact: Fraction
+    value: int
+    lean: Fraction  # to the safe side; below 0 is unsafe
+    limit: Fraction
+    unit: str
+    way: str = ''  # 'up' or 'down' of a reading
+
+    @property
+    def text(self) -> str:
+        value = f'{shown(self.value)} {self.unit} {self.way}'.strip()
+        return cells(self.name, f'{shown(self.exact)} {self.unit}', value,
+                     f'{shown(self.lean)} {self.unit}', f'{shown(self.limit)} {self.unit}')
+
+
+class Refused(Exception):
+    """A figure that may not stand on the page."""
+
+    def __init__(self, step: str, name: str, why: str):
+        super().__init__(f'{name}: {why}')
+        self.step, self.name = step, name
+
+
+def checked(place: str, row: Row) -> Row:
+    if not LEAST_LEAN <= row.lean < row.limit:
+        raise Refused(row.step, f'{place}, {row.name}',
+                      f'{shown(row.value)} {row.unit} leans {shown(row.lean)} {row.unit}, which is '
+                      f'not from {shown(LEAST_LEAN)} to less than {shown(row.limit)}')
+    return row
+
+
+def agree(step: str, name: str, figure, expected):
+    if figure != expected:
+        raise Refused(step, name, f'{figure} is not {expected}')
+
+
+def reading_rows(source: Source, number: int, meter: Meter) -> list[Row]:
+    """What adds leans as the source does, what is taken the other way."""
+    first, last = reference.meter_readings(rounds_up(source.side), meter)
     rows = []
-    for name, value, way in (('last', meter.last, up), ('first', meter.first, not up)):
-        entered = f'{value:08x}' if meter.kind == 'single' else grouped(value)
-        exact = exact_watt_hours(meter.kind, value)
-        whole = reading_watt_hours(meter.kind, value, way)
-        rows.append(row(f'meter {number} ({meter.sign}), {name} {entered}', shown(exact) + ' Wh',
-                        f'{grouped(whole)} Wh {"up" if way else "down"}',
-                        shown(abs(whole - exact)) + ' Wh', '1 Wh'))
+    for name, entered, value, adds in (('last', meter.last, last, meter.sign == '+'),
+                                       ('first', meter.first, first, meter.sign == '-')):
+        exact = exact_watt_hours(meter.kind, entered)
+        lean = excess(source.side, value, exact)
+        as_entered = f'{entered:08x}' if meter.kind == 'single' else shown(entered)
+        rows.append(Row('reading', f'meter {number} ({meter.sign}), {name} {as_entered}', exact,
+                        value, lean if adds else -lean, READING_WH, 'Wh',
+                        'up' if rounds_up(source.side) == adds else 'down'))
     return rows
 
 
-def source_rows(ledger: Ledger, given: Report, number: int) -> list[str]:
+def line_rows(ledger: Ledger, source: Source) -> list[Row]:
+    rows = []
+    for number, plant in sorted(ledger.plants.items()):
+        if plant.site == source.supply.site:
+            for at, line in enumerate(plant.fuel_lines):
+                exact = exact_fuel_milligrams(*line)
+                value = reference.fuel_milligrams(*line, rounds_up(source.side))
+                rows.append(Row('line', f'plant {number}, fuel line {at + 1}', exact, value,
+                                excess(source.side, value, exact), LINE_MG, 'mg'))
+    return rows
+
+
+def source_rows(ledger: Ledger, given: Report, number: int) -> list[Row]:
     source, figure = ledger.sources[number], given.figures[number]
-    side = source.side
-    energy, factor = exact_energy(source.meters), exact_factor(ledger, source, figure)
-    with_losses = energy * Fraction(10_000 + figure.loss, 10_000)
-    grams = exact_figure(ledger, source, figure)
-    rows = [line for i, meter in enumerate(source.meters)
-            for line in reading_rows(source, i + 1, meter)]
-    steps = (('energy E', energy, figure.energy, 'Wh', '8 Wh'),
-             (f'with losses, T = {grouped(figure.loss)}: U', with_losses,
-              figure.energy_with_losses, 'Wh', '13 Wh'),
-             (f'factor F, {figure.option}', factor, figure.factor, 'mg/kWh', '1.1 mg/kWh'),
-             ('grams', grams, figure.grams, 'g', shown(gap_limit(figure)) + ' g'))
-    for name, exact, value, unit, limit in steps:
-        rows.append(row(name, f'{shown(exact)} {unit}', f'{grouped(value)} {unit}',
-                        f'{shown(excess(side, value, exact))} {unit}', limit))
-    return rows
+
+    def row(step: str, name: str, exact: Fraction, value: int, limit: Fraction, unit: str) -> Row:
+        return Row(step, name, exact, value, excess(source.side, value, exact), limit, unit)
+    energy = exact_energy(source.meters)
+    with_losses = energy * Fraction(LOSS_UNITS + figure.loss, LOSS_UNITS)
+    return [
+        *(line for at, meter in enumerate(source.meters)
+          for line in reading_rows(source, at + 1, meter)),
+        row('energy', 'E', energy, figure.energy, ENERGY_WH, 'Wh'),
+        row('losses', f'U, with T = {shown(figure.loss)}', with_losses,
+            figure.energy_with_losses, LOSSES_WH, 'Wh'),
+        *(line_rows(ledger, source) if figure.option == 'captive' else []),
+        row('factor', f'F, {figure.option}', exact_factor(ledger, source, figure), figure.factor,
+            FACTOR_MG_PER_KWH, 'mg/kWh'),
+        row('grams', 'grams', exact_figure(ledger, source, figure), figure.grams,
+            grams_limit(figure), 'g')]
 
 
-def table(title: str, rows: list[str]) -> str:
-    head = [row('Step', 'Exact', 'In the report', 'Leans', 'Off by less than'), '|---|---|---|---|---|']
-    return '\n'.join(['', f'### {title}', '', *head, *rows, ''])
+def side_row(ledger: Ledger, given: Report, side: str) -> Row:
+    count, tonnes = len(numbers_of(ledger, side)), given.sides[side].tonnes
+    exact = exact_side(ledger, given, side)
+    return Row('tonnes', f'{side}, {count} of the sources', exact, tonnes,
+               excess(side, tonnes, exact), SIDE_T + allowance(count), 't')
 
 
-def side_rows(ledger: Ledger, given: Report) -> list[str]:
-    rows = []
-    for side in SIDES:
-        exact, tonnes = exact_side(ledger, given, side), given.sides[side].tonnes
-        count = len(numbers_of(ledger, side))
-        rows.append(row(f'{side}, {count} of the sources', shown(exact) + ' t', f'{grouped(tonnes)} t',
-                        shown(excess(side, tonnes, exact)) + ' t',
-                        shown(1 + Fraction(count, 5)) + ' t'))
+def reduction_row(ledger: Ledger, given: Report) -> Row:
     exact = exact_reduction(ledger, given)
-    rows.append(row('reduction', shown(exact) + ' t', f'{grouped(given.reduction)} t',
-                    shown(exact - given.reduction) + ' t',
-                    shown(3 + Fraction(len(ledger.sources), 5)) + ' t'))
-    return rows
+    return Row('reduction', 'reduction', exact, given.reduction, exact - given.reduction,
+               REDUCTION_T + allowance(len(ledger.sources)), 't')
+
+
+# 5. The report followed, each row checked
+
+
+class Followed(NamedTuple):
+    ledger: Ledger
+    given: Report
+    sources: dict[int, list[Row]]
+    sides: dict[str, Row]
+    reduction: Row
+
+
+def first_report() -> tuple[Ledger, Report]:
+    """What stands at the first report of the example, which is given."""
+    found = []
+
+    def on_report(ledger: Ledger, given: Report):
+        if not found:
+            standing = Ledger()
+            standing.grid = ledger.grid
+            standing.plants, standing.sources = dict(ledger.plants), dict(ledger.sources)
+            found.append((standing, given))
+    reference.tally(EXAMPLE.read_bytes(), on_report)
+    return found[0]
+
+
+def followed() -> Followed:
+    ledger, given = first_report()
+    sources = {}
+    for number in sorted(ledger.sources):
+        sources[number] = [checked(f'source {number}', row)
+                           for row in source_rows(ledger, given, number)]
+        grams = sources[number][-1]
+        checked(f'source {number}', grams._replace(step='weight', limit=1_000 * SOURCE_KG))
+    sides = {side: checked('sides', side_row(ledger, given, side)) for side in SIDES}
+    result = Followed(ledger, given, sources, sides,
+                      checked('sides', reduction_row(ledger, given)))
+    check_sums(result)
+    check_limits(result)
+    return result
+
+
+def check_sums(report: Followed):
+    """What the page shows as a sum or a difference is one."""
+    for number, rows in report.sources.items():
+        up = rounds_up(report.ledger.sources[number].side)
+        readings = [row.value if (row.way == 'up') == up else -row.value
+                    for row in rows if row.step == 'reading']
+        agree('energy', f'source {number}, E', report.given.figures[number].energy, sum(readings))
+    for side in SIDES:
+        agree('tonnes', f'{side}, grams', report.given.sides[side].grams,
+              sum(grams_of(report, side)))
+    tonnes = {side: row.value for side, row in report.sides.items()}
+    agree('reduction', 'reduction', report.given.reduction,
+          tonnes['baseline'] - tonnes['project'] - tonnes['leakage'])
+
+
+def check_limits(report: Followed):
+    """The limits of grams, tonnes and reduction are those of demand 3."""
+    rows = {'reduction, t': report.reduction}
+    rows |= {f'{side}, t': row for side, row in report.sides.items()}
+    for number, lines in report.sources.items():
+        rows[f'gap {number} by F and U, g'] = lines[-1]
+        rows[f'gap {number} by weight, g'] = lines[-1]._replace(limit=1_000 * SOURCE_KG)
+    demanded = {i.what: (i.off, i.limit)
+                for i in reference.demand_3(report.ledger, report.given)}
+    agree('grams', 'what demand 3 states', {what: (row.lean, row.limit) for what, row in rows.items()},
+          demanded)
+
+
+def grams_of(report: Followed, side: str) -> list[int]:
+    return [report.given.figures[number].grams for number in numbers_of(report.ledger, side)]
+
+
+# 6. The page
+
+
+def sum_row(report: Followed, side: str) -> str:
+    """The sources' grams, their sum and the printed tonnes, in order of safety."""
+    row, grams = report.sides[side], grams_of(report, side)
+    total = Fraction(sum(grams), MILLION)
+    summed = checked(f'{side}, sum of the sources',
+                     row._replace(value=total, lean=excess(side, total, row.exact),
+                                  limit=allowance(len(grams))))
+    checked(f'{side}, printed beyond the sum',
+            row._replace(lean=row.lean - summed.lean, limit=SIDE_T))
+    up = rounds_up(side)
+    return cells(f'{side}, rounded {"up" if up else "down"}', ' + '.join(map(shown, grams)),
+                 f'{shown(total)} t', f'{shown(row.value)} t', f'{shown(row.exact)} t',
+                 'exact ≤ sum ≤ printed' if up else 'printed ≤ sum ≤ exact')
+
+
+def which_is_true(report: Followed) -> list[str]:
+    rows = [sum_row(report, side) for side in SIDES]
+    project, leakage, baseline = (report.sides[side] for side in SIDES)
+    grams = grams_of(report, 'project')
+    printed = reference.answer_text(report.given).splitlines()[SIDES.index('project')]
+    return [
+        '## "I add up the sources and get less than the printed total. Which is true?"',
+        paragraph('Both stand on the safe side of the exact value. The printed total is what counts.'),
+        paragraph(f'''Take the project in the first report of `examples/site.txt`. Its sources are
+            {' g + '.join(map(shown, grams))} g. Together that is {shown(sum(grams))} g, or
+            {shown(Fraction(sum(grams), MILLION))} t. The report prints {shown(project.value)} t. The exact value,
+            rounded nowhere, is {shown(project.exact)} t. Your sum is not below it, and the printed total is not
+            below your sum. The report adds up the grams as you did, then rounds the sum once to whole tonnes, to
+            the safe side. Its line `{printed}` has the tonnes, the grams and the number of sources.'''),
+        paragraph('''The safe side of project and leakage is up: they must not be stated too low. The safe side of the
+            baseline is down: it must not be stated too high. There your sum is more than the printed total, and
+            neither is above the exact value.'''),
+        table(('Side', 'Grams of its sources', 'Their sum', 'Printed', 'Exact', 'In order'), rows),
+        paragraph(f'''The reduction is taken from the printed tonnes:
+            {shown(baseline.value)} − {shown(project.value)} − {shown(leakage.value)} =
+            {shown(report.reduction.value)} t. The exact reduction is {shown(report.reduction.exact)} t. So no tonne
+            is claimed that was not saved.'''),
+        paragraph(f'''A number with more than {DECIMALS} decimals is shown by its first {DECIMALS}; ".." stands for
+            the others.''')]
+
+
+def how_we_know() -> list[str]:
+    return [
+        '## "How do you know that the printed figure stands on the safe side?"',
+        paragraph('''Because every step from the meter to the printed tonne is rounded to the safe side, and because a
+            machine has checked a proof of it: for every list of entries that a manager can type, not for the cases
+            that somebody thought of. The proof also says how far a figure can be off at most. A figure that is safe
+            because it is far too high would be worthless.'''),
+        paragraph(f'''E is the energy of a source, in watt-hours (Wh). T is the loss on its way through the grid, in parts
+            of {LOSS_UNITS:,}. U is the energy with this loss. F is the emission factor, in milligrams of CO2 for each
+            kilowatt-hour (mg/kWh). Beside each limit stands the law that proves it; docs/PROVED.md says where.'''),
+        chain()]
+
+
+def step_by_step(report: Followed) -> list[str]:
+    head = ('Step', 'Exact', 'In the report', 'Leans', 'Off by less than')
+    parts = [
+        '## One report, step by step',
+        paragraph(f'''Here is the same report again. "Exact" is worked out from the formulas of document 01 with fractions,
+            and rounded nowhere. "Leans" is how far the figure in the report is off to the safe side:
+            {shown(LEAST_LEAN)} is exact, and below that would be unsafe. A reading that is taken away leans to the
+            safe side the other way than one that adds. `python3 tests/answer.py` computes every number on this page.
+            It writes the page only if each figure leans by {shown(LEAST_LEAN)} or more and by less than its limit.''')]
+    for number, rows in report.sources.items():
+        source = report.ledger.sources[number]
+        supply = ' '.join(str(part) for part in source.supply if part is not None)
+        parts += [f'### Source {number}: {source.side}, {supply}',
+                  table(head, [row.text for row in rows])]
+    rows = [*report.sides.values(), report.reduction]
+    return parts + ['### Sides and reduction', table(head, [row.text for row in rows])]
+
+
+def closing() -> str:
+    others = quoted(law for step in BY_OTHER_LAWS for law in STEPS[step].laws)
+    return paragraph(f'''That is no accident of this example. `demand-3` says of every report given, after any entries
+        and drops from an empty ledger, refused ones included: the grams of each source, the tonnes of each side and the reduction stand on the safe side; the gap
+        of each source, which is how far its grams are off, is below its limit and below {shown(SOURCE_KG)} kg; and
+        tonnes and reduction are off by less than their limits. Of readings, E, U, fuel lines and F it does not say
+        so. That these lean to the safe side, by less than their limits, is what the other laws say, of every
+        accepted entry: {others}.''')
 
 
 def page() -> str:
-    """The page for what stands at the first report given."""
-    pages = []
-
-    def on_report(ledger: Ledger, given: Report):
-        if pages:
-            return
-        reference.check_demand_3(ledger, given)
-        parts = [HEAD]
-        for number in sorted(ledger.sources):
-            source = ledger.sources[number]
-            supply = ' '.join(str(p) for p in source.supply if p is not None)
-            parts.append(table(f'Source {number}: {source.side}, {supply}',
-                               source_rows(ledger, given, number)))
-        parts.append(table('Sides and reduction', side_rows(ledger, given)))
-        parts.append('\nEvery "leans" is at least 0 and below its limit. That is no accident of this '
-                     'example: `demand-3` says it of every report.\n')
-        pages.append(''.join(parts))
-
-    reference.tally(EXAMPLE.read_bytes(), on_report)
-    return pages[0]
+    """Raises Refused where a figure may not stand."""
+    report = followed()
+    parts = ['# The answer to the manager', *which_is_true(report), *how_we_know(),
+             *step_by_step(report), closing()]
+    return '\n\n'.join(parts) + '\n'
 
 
-def check() -> bool:
-    return PAGE.exists() and PAGE.read_text(encoding='utf-8') == page()
+def write(path: Path = PAGE) -> int:
+    try:
+        text = page()
+    except Refused as refusal:
+        print(f'not written: {refusal}')
+        return 1
+    path.write_text(text, encoding='utf-8')
+    return 0
+
+
+# 7. The check
+
+
+def laws_missing() -> list[str]:
+    """The laws named that no crate proves in public under that name, or more than one."""
+    proofs = '\n'.join(path.read_text(encoding='utf-8')
+                       for path in sorted(ROOT.glob('crates/*/proofs/*.antt')))
+    return [law for law in laws_named()
+            if len(re.findall(rf'^ *pub {re.escape(law)} :', proofs, re.MULTILINE)) != 1]
+
+
+def laws_named() -> list[str]:
+    return ['demand-3', *(law for step in STEPS.values() for law in step.laws)]
+
+
+def check() -> int:
+    """One check for the page and one for each law."""
+    failures = [f'{law} is not one public law' for law in laws_missing()]
+    try:
+        if not PAGE.exists() or PAGE.read_text(encoding='utf-8') != page():
+            failures.append('docs/ANSWER.md is not what would be written')
+    except Refused as refusal:
+        failures.append(str(refusal))
+    return ended(1 + len(laws_named()), failures)
+
+
+def ended(checks: int, failures: list[str]) -> int:
+    for failure in failures:
+        print(f'FAILED {failure}')
+    print(f'{checks - len(failures)} passed, {len(failures)} failed')
+    return 1 if failures or not checks else 0
+
+
+# 8. The self-test
+
+
+class Slip(NamedTuple):
+    name: str
+    step: str  # at whose row it must be refused
+    owner: object
+    attribute: str
+    broken: object  # what stands in place of the attribute
+
+
+def wrong_way(step, direction: bool):
+    """A step that rounds the other way where it is asked for this direction."""
+    return lambda *given: step(*given[:-1], not direction if given[-1] == direction else given[-1])
+
+
+def too_far(step, direction: bool, by: int):
+    """A step that goes further by so much where it is asked for this direction."""
+    def broken(*given):
+        value = step(*given)
+        return value if given[-1] != direction else value + by if direction else value - by
+    return broken
+
+
+# The functions that round, by step, each with its direction as the last argument, and how far
+# is too far.
+ROUNDING = {'reading': ('reading_watt_hours', READING_WH), 'losses': ('energy_with_losses', LOSSES_WH),
+            'line': ('fuel_milligrams', LINE_MG), 'factor': ('factor_over', 2 * FACTOR_MG_PER_KWH),
+            'grams': ('source_grams', GRAM * MILLION), 'tonnes': ('side_tonnes', 2 * SIDE_T)}
+
+
+def slips() -> list[Slip]:
+    made = []
+    for step, (function, by) in ROUNDING.items():
+        original = getattr(reference, function)
+        for direction, way in ((True, 'up'), (False, 'down')):
+            made += [Slip(f'{function}, {way}, rounds the wrong way', step, reference, function,
+                          wrong_way(original, direction)),
+                     Slip(f'{function}, {way}, goes too far', step, reference, function,
+                          too_far(original, direction, int(by)))]
+    energy, readings = Source.energy.fget, reference.meter_readings
+    reduction = reference.reduction_of
+    made.append(Slip('a - meter is rounded as a + meter', 'reading', reference, 'meter_readings',
+                     lambda up, meter: readings(up, meter._replace(sign='+'))))
+    made += [Slip(f'E is off by {off}', 'energy', Source, 'energy',
+                  property(lambda source, off=off: energy(source) + off))
+             for off in (-int(ENERGY_WH), -1, 1, int(ENERGY_WH))]
+    made += [Slip(f'the reduction is off by {off}', 'reduction', reference, 'reduction_of',
+                  lambda sides, off=off: reduction(sides) + off) for off in (-3, 2)]
+    # Grams that keep the limit by F and U keep that by weight too; so here the limit is broken.
+    return made + [Slip('the limit by weight is nothing', 'weight', sys.modules[__name__],
+                        'SOURCE_KG', Fraction(0))]
+
+
+@contextmanager
+def broken_by(slip: Slip):
+    original = vars(slip.owner)[slip.attribute]
+    setattr(slip.owner, slip.attribute, slip.broken)
+    try:
+        yield
+    finally:
+        setattr(slip.owner, slip.attribute, original)
+
+
+def refused_at(slip: Slip, path: Path) -> str:
+    """'' where the slip is refused at its own step and nothing is written."""
+    print(slip.name, end=': ')
+    with broken_by(slip):
+        if write(path) != 1 or path.exists():
+            return f'{slip.name}: the page is written'
+        try:
+            page()
+        except Refused as refusal:
+            return '' if refusal.step == slip.step else f'{slip.name}: refused at {refusal.name}'
+    return f'{slip.name}: not refused'
+
+
+def numbers_as_text() -> list[str]:
+    """Texts of this file that hold a number which is no part of a name or of a format."""
+    tree = ast.parse(Path(__file__).read_text(encoding='utf-8'))
+    documented = {id(node.body[0].value) for node in ast.walk(tree)
+                  if isinstance(node, (ast.Module, ast.FunctionDef, ast.ClassDef))
+                  and ast.get_docstring(node) is not None}
+    texts = [node.value for node in ast.walk(tree) if isinstance(node, ast.Constant)
+             and isinstance(node.value, str) and id(node) not in documented]
+    names = r'document 01|demand-3|demand 3|CO2|python3|utf-8|08x'
+    return [text for text in texts if text != '0' and re.search(r'\d', re.sub(names, '', text))]
+
+
+def self_test() -> int:
+    made = slips()
+    failures = ['numbers stand as text: ' + repr(texts)] if (texts := numbers_as_text()) else []
+    failures += [f'no slip breaks {step}' for step in STEPS.keys() - {slip.step for slip in made}]
+    with tempfile.TemporaryDirectory() as folder:
+        path = Path(folder) / 'ANSWER.md'
+        failures += filter(None, [refused_at(slip, path) for slip in made])
+        if write(path) != 0 or not path.exists():
+            failures.append('the page is not written without a slip')
+    return ended(len(made) + len(STEPS) + 2, failures)
 
 
 if __name__ == '__main__':
-    if '--check' in sys.argv[1:]:
-        same = check()
-        print('1 passed, 0 failed' if same else 'docs/ANSWER.md is not what would be written\n0 passed, 1 failed')
-        sys.exit(0 if same else 1)
-    PAGE.write_text(page(), encoding='utf-8')
+    sys.exit({(): write, ('--check',): check, ('--self-test',): self_test}.get(
+        tuple(sys.argv[1:]), lambda: __doc__)())
