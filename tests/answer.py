@@ -1,4 +1,4 @@
-"""Writes docs/ANSWER.md: which of two totals is true, and how a manager knows that a printed figure is safe.
+"""Writes docs/ANSWER.md: which of two totals counts, and how a manager knows that it is safe.
 
     answer.py              writes the page
     answer.py --check      compares the page with what would be written, and looks up the laws
@@ -38,7 +38,6 @@ WIDTH = 140  # of a line of the page
 LEAST_LEAN = Fraction(0)
 METERS = 4  # of a source, with two readings each
 LOSS_UNITS = 10_000  # T counts parts of this
-LINE_DIVISOR = 1_000  # kJ a MJ
 MILLION = 1_000_000  # divides U × F to grams, and grams to tonnes
 
 READING_WH = Fraction(1)
@@ -59,6 +58,10 @@ def grams_limit(figure: Figure) -> Fraction:
                    + FACTOR_MG_PER_KWH * figure.energy_with_losses) / MILLION
 
 
+def weight_limit() -> Fraction:
+    return 1_000 * SOURCE_KG
+
+
 def allowance(sources: int) -> Fraction:
     """The tonnes that so many sources may be off."""
     return sources * SOURCE_KG / 1_000
@@ -71,9 +74,8 @@ def shown(value: Fraction | int) -> str:
     """All decimals, or the first DECIMALS of them and '..' where more follow."""
     scaled = abs(value) * 10 ** DECIMALS
     whole, part = divmod(int(scaled), 10 ** DECIMALS)
-    decimals = f'{part:0{DECIMALS}d}'
-    more = '..' if scaled != int(scaled) else ''
-    text = f'{whole:,}.{decimals}{more}' if more else f'{whole:,}.{decimals}'.rstrip('0').rstrip('.')
+    text = f'{whole:,}.{part:0{DECIMALS}d}'
+    text = text.rstrip('0').rstrip('.') if scaled == int(scaled) else text + '..'
     return f'-{text}' if value < 0 else text
 
 
@@ -114,8 +116,8 @@ STEPS = {
                    f'{shown(LOSSES_WH)} Wh', ('losses-conservative',)),
     'line': Step('a fuel line of a captive plant, to mg', AS_SIDE, f'{shown(LINE_MG)} mg',
                  ('line-conservative',)),
-    'factor': Step("F: entered, or a default, or the site's fuel lines in mg ÷ its generation in kWh",
-                   AS_SIDE, f'{shown(FACTOR_MG_PER_KWH)} mg/kWh', ('chosen-sound',)),
+    'factor': Step("F: entered, or a default, or the site's fuel lines in mg ÷ its generation in "
+                   'kWh', AS_SIDE, f'{shown(FACTOR_MG_PER_KWH)} mg/kWh', ('chosen-sound',)),
     'grams': Step(f'grams of a source = U × F ÷ {MILLION:,}', AS_SIDE,
                   f'{shown(GRAM)} + ({shown(LOSSES_WH)} × (F + {FACTOR_SLACK}) + '
                   f'{shown(FACTOR_MG_PER_KWH)} × U) ÷ {MILLION:,} g', ('figure-conservative',)),
@@ -157,6 +159,10 @@ class Row(NamedTuple):
     way: str = ''  # 'up' or 'down' of a reading
 
     @property
+    def stands(self) -> bool:
+        return LEAST_LEAN <= self.lean < self.limit
+
+    @property
     def text(self) -> str:
         value = f'{shown(self.value)} {self.unit} {self.way}'.strip()
         return cells(self.name, f'{shown(self.exact)} {self.unit}', value,
@@ -172,16 +178,16 @@ class Refused(Exception):
 
 
 def checked(place: str, row: Row) -> Row:
-    if not LEAST_LEAN <= row.lean < row.limit:
+    if not row.stands:
         raise Refused(row.step, f'{place}, {row.name}',
                       f'{shown(row.value)} {row.unit} leans {shown(row.lean)} {row.unit}, which is '
                       f'not from {shown(LEAST_LEAN)} to less than {shown(row.limit)}')
     return row
 
 
-def agree(step: str, name: str, figure, expected):
+def agree(step: str, name: str, figure: Fraction | int, expected: Fraction | int):
     if figure != expected:
-        raise Refused(step, name, f'{figure} is not {expected}')
+        raise Refused(step, name, f'{shown(figure)} is not {shown(expected)}')
 
 
 def reading_rows(source: Source, number: int, meter: Meter) -> list[Row]:
@@ -276,7 +282,7 @@ def followed() -> Followed:
         sources[number] = [checked(f'source {number}', row)
                            for row in source_rows(ledger, given, number)]
         grams = sources[number][-1]
-        checked(f'source {number}', grams._replace(step='weight', limit=1_000 * SOURCE_KG))
+        checked(f'source {number}', grams._replace(step='weight', limit=weight_limit()))
     sides = {side: checked('sides', side_row(ledger, given, side)) for side in SIDES}
     result = Followed(ledger, given, sources, sides,
                       checked('sides', reduction_row(ledger, given)))
@@ -306,11 +312,12 @@ def check_limits(report: Followed):
     rows |= {f'{side}, t': row for side, row in report.sides.items()}
     for number, lines in report.sources.items():
         rows[f'gap {number} by F and U, g'] = lines[-1]
-        rows[f'gap {number} by weight, g'] = lines[-1]._replace(limit=1_000 * SOURCE_KG)
-    demanded = {i.what: (i.off, i.limit)
-                for i in reference.demand_3(report.ledger, report.given)}
-    agree('grams', 'what demand 3 states', {what: (row.lean, row.limit) for what, row in rows.items()},
-          demanded)
+        rows[f'gap {number} by weight, g'] = lines[-1]._replace(limit=weight_limit())
+    for what, off, limit in reference.demand_3(report.ledger, report.given):
+        row = rows.pop(what)
+        agree(row.step, f'{what}, how far it is off', row.lean, off)
+        agree(row.step, f'{what}, its limit', row.limit, limit)
+    agree('grams', 'rows that demand 3 does not state', len(rows), 0)
 
 
 def grams_of(report: Followed, side: str) -> list[int]:
@@ -345,32 +352,35 @@ def which_is_true(report: Followed) -> list[str]:
         paragraph('Both stand on the safe side of the exact value. The printed total is what counts.'),
         paragraph(f'''Take the project in the first report of `examples/site.txt`. Its sources are
             {' g + '.join(map(shown, grams))} g. Together that is {shown(sum(grams))} g, or
-            {shown(Fraction(sum(grams), MILLION))} t. The report prints {shown(project.value)} t. The exact value,
-            rounded nowhere, is {shown(project.exact)} t. Your sum is not below it, and the printed total is not
-            below your sum. The report adds up the grams as you did, then rounds the sum once to whole tonnes, to
-            the safe side. Its line `{printed}` has the tonnes, the grams and the number of sources.'''),
-        paragraph('''The safe side of project and leakage is up: they must not be stated too low. The safe side of the
-            baseline is down: it must not be stated too high. There your sum is more than the printed total, and
-            neither is above the exact value.'''),
+            {shown(Fraction(sum(grams), MILLION))} t. The report prints {shown(project.value)} t.
+            The exact value, rounded nowhere, is {shown(project.exact)} t. Your sum is not below it,
+            and the printed total is not below your sum. The report adds up the grams as you did,
+            then rounds the sum once to whole tonnes, to the safe side. Its line `{printed}` has the
+            tonnes, the grams and the number of sources.'''),
+        paragraph('''The safe side of project and leakage is up: they must not be stated too low.
+            The safe side of the baseline is down: it must not be stated too high. There your sum is
+            more than the printed total, and neither is above the exact value.'''),
         table(('Side', 'Grams of its sources', 'Their sum', 'Printed', 'Exact', 'In order'), rows),
-        paragraph(f'''The reduction is taken from the printed tonnes:
-            {shown(baseline.value)} − {shown(project.value)} − {shown(leakage.value)} =
-            {shown(report.reduction.value)} t. The exact reduction is {shown(report.reduction.exact)} t. So no tonne
-            is claimed that was not saved.'''),
-        paragraph(f'''A number with more than {DECIMALS} decimals is shown by its first {DECIMALS}; ".." stands for
-            the others.''')]
+        paragraph(f'''The reduction is taken from the printed tonnes: {shown(baseline.value)} −
+            {shown(project.value)} − {shown(leakage.value)} = {shown(report.reduction.value)} t. The
+            exact reduction is {shown(report.reduction.exact)} t. So no tonne is claimed that was
+            not saved.'''),
+        paragraph(f'''A number with more than {DECIMALS} decimals is shown by its first {DECIMALS};
+            ".." stands for the others.''')]
 
 
 def how_we_know() -> list[str]:
     return [
         '## "How do you know that the printed figure stands on the safe side?"',
-        paragraph('''Because every step from the meter to the printed tonne is rounded to the safe side, and because a
-            machine has checked a proof of it: for every list of entries that a manager can type, not for the cases
-            that somebody thought of. The proof also says how far a figure can be off at most. A figure that is safe
-            because it is far too high would be worthless.'''),
-        paragraph(f'''E is the energy of a source, in watt-hours (Wh). T is the loss on its way through the grid, in parts
-            of {LOSS_UNITS:,}. U is the energy with this loss. F is the emission factor, in milligrams of CO2 for each
-            kilowatt-hour (mg/kWh). Beside each limit stands the law that proves it; docs/PROVED.md says where.'''),
+        paragraph('''Because every step from the meter to the printed tonne is rounded to the safe
+            side, and because a machine has checked a proof of it: for every list of entries that a
+            manager can type, not for the cases that somebody thought of. The proof also says how
+            far a figure can be off at most. A figure that is safe because it is far too high would
+            be worthless.'''),
+        paragraph(f'''E is the energy of a source, in watt-hours (Wh). T is the loss on its way
+            through the grid, in parts of {LOSS_UNITS:,}. U is the energy with this loss. F is the
+            emission factor, in milligrams of CO2 for each kilowatt-hour (mg/kWh). Beside each limit
+            stands the law that proves it; docs/PROVED.md says where.'''),
         chain()]
 
 
@@ -378,11 +388,12 @@ def step_by_step(report: Followed) -> list[str]:
     head = ('Step', 'Exact', 'In the report', 'Leans', 'Off by less than')
     parts = [
         '## One report, step by step',
-        paragraph(f'''Here is the same report again. "Exact" is worked out from the formulas of document 01 with fractions,
-            and rounded nowhere. "Leans" is how far the figure in the report is off to the safe side:
-            {shown(LEAST_LEAN)} is exact, and below that would be unsafe. A reading that is taken away leans to the
-            safe side the other way than one that adds. `python3 tests/answer.py` computes every number on this page.
-            It writes the page only if each figure leans by {shown(LEAST_LEAN)} or more and by less than its limit.''')]
+        paragraph(f'''Here is the same report again. "Exact" is worked out from the formulas of
+            document 01 with fractions, and rounded nowhere. "Leans" is how far the figure in the
+            report is off to the safe side: {shown(LEAST_LEAN)} is exact, and below that would be
+            unsafe. A reading that is taken away leans to the safe side the other way than one that
+            adds. `python3 tests/answer.py` computes every number on this page. It writes the page
+            only if each figure leans by {shown(LEAST_LEAN)} or more and by less than its limit.''')]
     for number, rows in report.sources.items():
         source = report.ledger.sources[number]
         supply = ' '.join(str(part) for part in source.supply if part is not None)
@@ -394,12 +405,13 @@ def step_by_step(report: Followed) -> list[str]:
 
 def closing() -> str:
     others = quoted(law for step in BY_OTHER_LAWS for law in STEPS[step].laws)
-    return paragraph(f'''That is no accident of this example. `demand-3` says of every report given, after any entries
-        and drops from an empty ledger, refused ones included: the grams of each source, the tonnes of each side and the reduction stand on the safe side; the gap
-        of each source, which is how far its grams are off, is below its limit and below {shown(SOURCE_KG)} kg; and
-        tonnes and reduction are off by less than their limits. Of readings, E, U, fuel lines and F it does not say
-        so. That these lean to the safe side, by less than their limits, is what the other laws say, of every
-        accepted entry: {others}.''')
+    return paragraph(f'''That is no accident of this example. `demand-3` says of every report given,
+        after any entries and drops from an empty ledger, refused ones included: the grams of each
+        source, the tonnes of each side and the reduction stand on the safe side; the gap of each
+        source, which is how far its grams are off, is below its limit and below {shown(SOURCE_KG)}
+        kg; and tonnes and reduction are off by less than their limits. Of readings, E, U, fuel
+        lines and F it does not say so. That these lean to the safe side, by less than their limits,
+        is what the other laws say, of every accepted entry: {others}.''')
 
 
 def page() -> str:
@@ -479,7 +491,8 @@ def too_far(step, direction: bool, by: int):
 
 # The functions that round, by step, each with its direction as the last argument, and how far
 # is too far.
-ROUNDING = {'reading': ('reading_watt_hours', READING_WH), 'losses': ('energy_with_losses', LOSSES_WH),
+ROUNDING = {'reading': ('reading_watt_hours', READING_WH),
+            'losses': ('energy_with_losses', LOSSES_WH),
             'line': ('fuel_milligrams', LINE_MG), 'factor': ('factor_over', 2 * FACTOR_MG_PER_KWH),
             'grams': ('source_grams', GRAM * MILLION), 'tonnes': ('side_tonnes', 2 * SIDE_T)}
 
@@ -544,14 +557,23 @@ def numbers_as_text() -> list[str]:
 
 def self_test() -> int:
     made = slips()
-    failures = ['numbers stand as text: ' + repr(texts)] if (texts := numbers_as_text()) else []
+    row = Row('grams', 'grams', Fraction(0), 0, Fraction(0), Fraction(2), 'g')
+    eighths, sevenths = ([Fraction(n, d) for n in range(-d, d) if n] for d in (8, 7))
+    wanted = {
+        'no number stands as text': not numbers_as_text(),
+        'a row stands from nothing to below its limit':
+            [lean for lean in (-1, 0, 1, 2) if row._replace(lean=lean).stands] == [0, 1],
+        'a decimal that ends is shown in full': [Fraction(shown(n)) for n in eighths] == eighths,
+        'one that goes on is shown with dots':
+            all(shown(n).endswith('..') for n in sevenths if n.denominator > 1)}
+    failures = [what for what, holds in wanted.items() if not holds]
     failures += [f'no slip breaks {step}' for step in STEPS.keys() - {slip.step for slip in made}]
     with tempfile.TemporaryDirectory() as folder:
         path = Path(folder) / 'ANSWER.md'
         failures += filter(None, [refused_at(slip, path) for slip in made])
         if write(path) != 0 or not path.exists():
             failures.append('the page is not written without a slip')
-    return ended(len(made) + len(STEPS) + 2, failures)
+    return ended(len(wanted) + len(STEPS) + len(made) + 1, failures)
 
 
 if __name__ == '__main__':
