@@ -1,6 +1,6 @@
 pub mod Digits
 pub mod Steps
-pub mod Words
+pub mod Places
 pub mod Buffer
 pub mod Puts
 pub mod Decimals
