@@ -2,8 +2,8 @@
 use mathlib.Core.Path.{_≡_, refl, sym, ap, _∙_, subst}
 use mathlib.Core.Bool.{Bool, true, false, not, cond, _&&_, _||_}
 use mathlib.Core.List.{List, [], _∷_, map}
-use Prim.Native.Nat.{ℕ, zero, suc, _+_, _-_, _*_, _≤_, _<_}
-use native.Mathlib.Nat.{add-assoc, add-zero, zero-add, sub-zero, mul-le-mul-right, mul-lt-mul-of-pos-right}
+use Prim.Native.Nat.{ℕ, suc, _+_, _-_, _*_, _≤_, _<_}
+use native.Mathlib.Nat.{add-assoc, add-zero, zero-add, sub-zero, mul-lt-mul-of-pos-right}
 use native.Mathlib.Numerals.{add-one}
 use native.Mathlib.Omega.{arith}
 use lib.Dec.{leb, ltb}
@@ -11,16 +11,16 @@ use lib.ListN.{length, take, drop, getD, length-take}
 use lib.Seq.{drop-cons}
 use borrow.Author.Tests.{leb-true}
 use Rattle.rounding.specs.declared.Direction.{Direction}
-use Rattle.rounding.specs.declared.Direction.the-variants.{Up, Down}
 use Rattle.rounding.specs.Outcome.{given}
 use Rattle.rounding.specs.Divided.{divided, opposite, sum}
-use Rattle.rounding.specs.Ratio.{_÷_, Conservative}
-use Rattle.rounding.proofs.Divided.{RoundsSum, rounds-sum}
+use Rattle.rounding.specs.Ratio.{_÷_, whole, Conservative}
+use Rattle.rounding.proofs.Ratio.{All, all-then, sum-conservative, less-conservative}
 use Rattle.rounding.proofs.Tests.{and-both, ltb-kept}
 use Rattle.metering.specs.Reading.{unit, limit, exact, accepted, wattHours}
 use Rattle.metering.specs.Energy.{firstOf, lastOf, addingOf, takingOf, adding, taking, isAccepted, runsBack, allMeters, anyMeter}
 use Rattle.metering.specs.Energy.{exactEnergy, roundedAdding, roundedTaking, judgedReadings, judgedMeters, settledEnergy}
 use Rattle.metering.specs.Steps.{meterRead, metersRead}
+use Rattle.metering.specs.declared.Reading.{Reading}
 use Rattle.metering.specs.declared.Sign.{Sign}
 use Rattle.metering.specs.declared.Sign.the-variants.{Plus, Minus}
 use Rattle.metering.specs.declared.Meter.{Meter}
@@ -29,7 +29,7 @@ use Rattle.metering.specs.declared.MeterRead.the-variants.{Refused, Move
 use Rattle.metering.specs.declared.MetersJudged.{MetersJudged}
 use Rattle.metering.specs.declared.MetersJudged.the-variants as metersJudged
 use Rattle.metering.specs.declared.EnergyJudged.the-variants as energyJudged
-use Rattle.metering.proofs.Readings.{unit-above-zero, was-rounded, rounded-within}
+use Rattle.metering.proofs.Readings.{unit-above-zero, rounded, was-rounded, rounded-within, reading-conservative}
 
 and-swap : (a b : Bool) → (a && b) ≡ (b && a)
 and-swap true true = refl
@@ -51,6 +51,9 @@ accepted-both m = go (m .sign) (accepted (firstOf (m .interval))) (accepted (las
         → (f && l) ≡ (accepted (addingOf s (m .interval)) && accepted (takingOf s (m .interval)))
     go Plus f l p q = and-swap f l ∙ sym (rw (p, q))
     go Minus f l p q = sym (rw (p, q))
+
+both-accepted : (m : Meter) → isAccepted m ≡ true → (accepted (adding m) ≡ true) × (accepted (taking m) ≡ true)
+both-accepted m h = and-both (accepted (adding m)) (accepted (taking m)) (sym (accepted-both m) ∙ h)
 
 module _ (dir : Direction) (m : Meter) where
   abbrev moved : MeterRead
@@ -74,7 +77,7 @@ module _ (dir : Direction) (m : Meter) where
   pub meter-within : (a t : ℕ) (b : Bool) → meterRead dir m ≡ Moved a t b → (a ≤ limit) × (t ≤ limit)
   meter-within a t b e =
       let w = go (isAccepted m) e in
-      let p = and-both (accepted (adding m)) (accepted (taking m)) (sym (accepted-both m) ∙ w .0) in (
+      let p = both-accepted m (w .0) in (
         subst (λ (n : ℕ). n ≤ limit) (w .1) (rounded-within dir (adding m) (p .0)),
         subst (λ (n : ℕ). n ≤ limit) (w .2) (rounded-within (opposite dir) (taking m) (p .1)),
       )
@@ -194,9 +197,9 @@ judged-by-reads dir ms = go (allMeters isAccepted ms) (anyMeter runsBack ms) (ro
 
 -- ---- the energy
 
--- Where sums are read, there are at most four meters, and the sums are those of the first n.
+-- Where sums are read, there are at most four meters, the sums are those of the first n, and all of these are accepted.
 pub was-read : (dir : Direction) (n : ℕ) (ms : List Meter) (a t : ℕ) → judgedMeters dir n ms ≡ metersJudged.Read a t
-    → (leb n 4 ≡ true) × (roundedAdding dir (take n ms) ≡ a) × (roundedTaking dir (take n ms) ≡ t)
+    → (leb n 4 ≡ true) × (roundedAdding dir (take n ms) ≡ a) × (roundedTaking dir (take n ms) ≡ t) × (allMeters isAccepted (take n ms) ≡ true)
 unfolding judgedMeters judgedReadings
 was-read dir n ms a t e =
     go (leb 1 n) (leb n 4) (allMeters isAccepted (take n ms)) (anyMeter runsBack (take n ms))
@@ -205,12 +208,12 @@ was-read dir n ms a t e =
     go : (p q s u : Bool) (x y : ℕ)
         → cond (p && q) (cond (not s) (metersJudged.Refused 3) (cond u (metersJudged.Refused 4) (metersJudged.Read x y))) (metersJudged.Refused 2)
         ≡ metersJudged.Read a t
-        → (q ≡ true) × (x ≡ a) × (y ≡ t)
-    go true true true false x y r = (refl, cc, cc)
-    go true true true true x y r = (refl, cc, cc)
-    go true true false u x y r = (refl, cc, cc)
-    go true false s u x y r = (cc, cc, cc)
-    go false q s u x y r = (cc, cc, cc)
+        → (q ≡ true) × (x ≡ a) × (y ≡ t) × (s ≡ true)
+    go true true true false x y r = (refl, cc, cc, refl)
+    go true true true true x y r = (refl, cc, cc, refl)
+    go true true false u x y r = (refl, cc, cc, cc)
+    go true false s u x y r = (cc, cc, cc, cc)
+    go false q s u x y r = (cc, cc, cc, cc)
 
 -- Where an energy is accepted, it is the difference of the sums, within its limit.
 pub was-settled : (a t E : ℕ) → settledEnergy a t ≡ energyJudged.Accepted E → (E + t ≡ a) × (E ≤ limit)
@@ -236,30 +239,40 @@ energy-limit a t E e = was-settled a t E e .1
 pub taken-length : {A : Type 0} (n k : ℕ) (xs : List A) → n ≤ k → length (take n xs) ≤ k
 taken-length n k xs h = simp length-take (omega arith)
 
--- At most four readings each way, each less than 1 off, at a unit u: `omega` takes no number of more than 38 digits.
-near : (dir : Direction) (u E a t n x y : ℕ) → 0 < u → n ≤ 4 → E + t ≡ a → RoundsSum dir x n u a → RoundsSum (opposite dir) y n u t
-    → Conservative dir E record { plus = x; minus = y; over = u } (8 ÷ 1)
-near Up u E a t zero x y above h e p q = omega (arith, ap (λ (k : ℕ). k * u) e)
-near Up u E a t (suc n) x y above h e p q = omega (arith, ap (λ (k : ℕ). k * u) e, mul-le-mul-right u h)
-near Down u E a t zero x y above h e p q = omega (arith, ap (λ (k : ℕ). k * u) e)
-near Down u E a t (suc n) x y above h e p q = omega (arith, ap (λ (k : ℕ). k * u) e, mul-le-mul-right u h)
+-- ---- how near the energy is
 
-abbrev adds : Meter → ℕ
-adds m = exact (adding m)
+-- What holds of all meters holds of each.
+all-each : (p : Meter → Bool) (ms : List Meter) → allMeters p ms ≡ true → All (λ (m : Meter). p m ≡ true) ms
+unfolding allMeters
+all-each p [] h = tt
+all-each p (m ∷ ms) h = let k = and-both (p m) (allMeters p ms) h in (k .0, all-each p ms (k .1))
 
-abbrev takes : Meter → ℕ
-takes m = exact (taking m)
+-- One reading of each of at most four meters, each less than 1 Wh off: their sum is less than 4 Wh off.
+readings-conservative : (dir : Direction) (reading : Meter → Reading) (ms : List Meter) → length ms ≤ 4
+    → All (λ (m : Meter). accepted (reading m) ≡ true) ms
+    → Conservative dir (sum (map (λ (m : Meter). divided dir (exact (reading m)) unit) ms)) (sum (map (λ (m : Meter). exact (reading m)) ms) ÷ unit) (whole 4)
+readings-conservative dir reading ms few h =
+    sum-conservative dir unit 4 unit-above-zero (omega arith) value (λ (m : Meter). exact (reading m)) ms few (all-then near ms h)
+  where
+    value : Meter → ℕ
+    value m = divided dir (exact (reading m)) unit
 
--- An accepted energy stands on the safe side of the exact one, and is off by less than 8 Wh.
+    near : (m : Meter) → accepted (reading m) ≡ true → Conservative dir (value m) (exact (reading m) ÷ unit) (whole 1)
+    near m k = reading-conservative dir (reading m) (value m) (sym (rounded dir (reading m) (value m) k refl))
+
+-- An accepted energy stands on the safe side of the exact one, and is off by less than 8 Wh: 4 by what adds and 4 by what is taken.
 pub energy-conservative : (dir : Direction) (n : ℕ) (ms : List Meter) (a t E : ℕ)
     → judgedMeters dir n ms ≡ metersJudged.Read a t → settledEnergy a t ≡ energyJudged.Accepted E
     → Conservative dir E (exactEnergy (take n ms)) (8 ÷ 1)
 unfolding exactEnergy roundedAdding roundedTaking
 energy-conservative dir n ms a t E r s =
     let w = was-read dir n ms a t r in
-    near dir unit E a t (length (take n ms)) (sum (map adds (take n ms))) (sum (map takes (take n ms)))
-    unit-above-zero (taken-length n 4 ms (leb-true n 4 (w .0))) (was-settled a t E s .0)
-    (subst (RoundsSum dir (sum (map adds (take n ms))) (length (take n ms)) unit) (w .1)
-    (rounds-sum dir unit unit-above-zero adds (take n ms)))
-    (subst (RoundsSum (opposite dir) (sum (map takes (take n ms))) (length (take n ms)) unit) (w .2)
-    (rounds-sum (opposite dir) unit unit-above-zero takes (take n ms)))
+    let few = taken-length n 4 ms (leb-true n 4 (w .0)) in
+    let each = all-then both-accepted (take n ms) (all-each isAccepted (take n ms) (w .3)) in
+    let x = sum (map (λ (m : Meter). exact (adding m)) (take n ms)) in
+    let y = sum (map (λ (m : Meter). exact (taking m)) (take n ms)) in
+    less-conservative dir E a t x y unit 4 4 (was-settled a t E s .0)
+    (subst (λ (v : ℕ). Conservative dir v (x ÷ unit) (whole 4)) (w .1)
+    (readings-conservative dir adding (take n ms) few (all-then (λ m k. k .0) (take n ms) each)))
+    (subst (λ (v : ℕ). Conservative (opposite dir) v (y ÷ unit) (whole 4)) (w .2)
+    (readings-conservative (opposite dir) taking (take n ms) few (all-then (λ m k. k .1) (take n ms) each)))

@@ -1,4 +1,4 @@
--- A reading's whole watt-hours: when they are given, and that they round the exact value. Assumes nothing.
+-- A reading's whole watt-hours: when they are given, and how near they are to the exact value. Assumes nothing.
 use mathlib.Core.Path.{_≡_, refl, sym, ap, _∙_, subst}
 use mathlib.Core.Bool.{Bool, true, false}
 use Prim.Native.Nat.{ℕ, _*_, _≤_, _<_}
@@ -11,7 +11,9 @@ use Rattle.rounding.specs.declared.Direction.{Direction}
 use Rattle.rounding.specs.declared.Direction.the-variants.{Up}
 use Rattle.rounding.specs.Outcome.{refused, given, refuseUnless}
 use Rattle.rounding.specs.Divided.{divided, Rounds}
+use Rattle.rounding.specs.Ratio.{_÷_, whole, Conservative}
 use Rattle.rounding.proofs.Divided.{rounds, divided-at-most, divided-up-bounds, divided-whole}
+use Rattle.rounding.proofs.Ratio.{rounds-conservative}
 use Rattle.rounding.proofs.Outcomes.{never-given, given-is, test-held}
 use Rattle.rounding.proofs.Tests.{and-both}
 use Rattle.metering.specs.Reading.{unit, limit, exact, isReadable, accepted, wattHours}
@@ -45,13 +47,11 @@ within-limit r h = leb-true (exact r) (limit * unit) (and-both (isReadable r) _ 
 pub rounded-within : (dir : Direction) (r : Reading) → accepted r ≡ true → divided dir (exact r) unit ≤ limit
 rounded-within dir r h = divided-at-most dir (exact r) unit limit unit-above-zero (within-limit r h)
 
--- A reading's watt-hours round its exact value, and are within the limit.
-pub watt-hours-rounds : (dir : Direction) (r : Reading) (q : ℕ) → wattHours dir r ≡ given q → Rounds dir (exact r) unit q × (q ≤ limit)
-watt-hours-rounds dir r q e =
-    let p = was-rounded dir r q e in (
-      subst (Rounds dir (exact r) unit) (p .1) (rounds dir (exact r) unit unit-above-zero),
-      subst (λ (n : ℕ). n ≤ limit) (p .1) (rounded-within dir r (p .0)),
-    )
+-- A reading's watt-hours stand on the safe side of its exact value in Wh, less than 1 Wh off.
+pub reading-conservative : (dir : Direction) (r : Reading) (q : ℕ) → wattHours dir r ≡ given q → Conservative dir q (exact r ÷ unit) (whole 1)
+reading-conservative dir r q e =
+    rounds-conservative dir (exact r) unit q
+    (subst (Rounds dir (exact r) unit) (was-rounded dir r q e .1) (rounds dir (exact r) unit unit-above-zero))
 
 -- An exact value is within the limit exactly where it is, rounded up.
 pub limit-rounded : (x : ℕ) → leb x (limit * unit) ≡ leb (divided Up x unit) limit
