@@ -2,3 +2,4 @@ pub mod Factors
 pub mod Losses
 pub mod Figures
 pub mod Supplies
+pub mod Examples
