@@ -250,7 +250,8 @@ all-each p (m ∷ ms) h = let k = and-both (p m) (allMeters p ms) h in (k .0, al
 -- One reading of each of at most four meters, each less than 1 Wh off: their sum is less than 4 Wh off.
 readings-conservative : (dir : Direction) (reading : Meter → Reading) (ms : List Meter) → length ms ≤ 4
     → All (λ (m : Meter). accepted (reading m) ≡ true) ms
-    → Conservative dir (sum (map (λ (m : Meter). divided dir (exact (reading m)) unit) ms)) (sum (map (λ (m : Meter). exact (reading m)) ms) ÷ unit) (whole 4)
+    → Conservative dir (sum (map (λ (m : Meter). divided dir (exact (reading m)) unit) ms))
+    (sum (map (λ (m : Meter). exact (reading m)) ms) ÷ unit) (whole 4)
 readings-conservative dir reading ms few h =
     sum-conservative dir unit 4 unit-above-zero (omega arith) value (λ (m : Meter). exact (reading m)) ms few (all-then near ms h)
   where
