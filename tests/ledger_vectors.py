@@ -1,9 +1,10 @@
 """Lists of calls on the ledger, with the answers of the reference.
 
 vectors.py writes and checks them with the other vectors. A call is a vector of
-24 fields: its operation and its arguments, as the program ledger_vectors reads
-them. Unlike a line of text, a call always holds four fuel lines or meters beside
-their count, and its numbers go up to the last ones of their types.
+24 fields after its kind: its operation and its arguments, as the module calls.rt
+of the program `vectors` reads them. Unlike a line of text, a call always holds
+four fuel lines or meters beside their count, and its numbers go up to the last
+ones of their types.
 """
 
 from collections import Counter
@@ -700,15 +701,21 @@ class RandomCalls(Calls):
         self.random_report()
 
 
+class NotMet(Exception):
+    """Something that the lists are for does not come up in them."""
+
+
 def check_met(by_hand: Calls, at_random: Calls):
-    """What the lists are for comes up in them."""
-    for calls in (by_hand, at_random):
-        assert set(calls.refusals) == {*range(1, 13)}, 'not every refusal of 1 to 12 is met'
-        assert calls.damages, 'no damage is met'
-        assert calls.given * 3 >= calls.reports, 'reports are seldom given'
     # 3 sides by 3 losses by combined, griddefault and either with its two options;
     # 3 sides by captive and captivedefault
-    assert len(by_hand.kinds) == 42, 'not every kind of source is reported'
+    met = {'every kind of source is reported': len(by_hand.kinds) == 42}
+    for name, calls in (('by hand', by_hand), ('at random', at_random)):
+        met[f'every refusal of 1 to 12 is met {name}'] = set(calls.refusals) == {*range(1, 13)}
+        met[f'damage is met {name}'] = calls.damages > 0
+        met[f'a third of the reports {name} is given'] = calls.given * 3 >= calls.reports
+    missing = [what for what, holds in met.items() if not holds]
+    if missing:
+        raise NotMet('not so: ' + '; '.join(missing))
 
 
 def call_vectors(numbers) -> list[tuple]:

@@ -1,18 +1,20 @@
-"""The vectors that the test programs run, with the answers of the reference.
+"""The vectors that the program `vectors` runs, with the answers of the reference.
 
-    vectors.py          writes stdin and stdout of each crate of vectors
-    vectors.py --check  compares those files with what it would write
+    vectors.py          writes crates/vectors/stdin and stdout
+    vectors.py --check  compares these two files with what it would write, byte for
+                        byte, and counts them; that the program answers stdin by
+                        stdout is for `rt check` to see, which runs it
 
 A vector is a line of stdin and its answer in stdout, a line or more. Its fields
-are numbers of 64 bits, each written as 16 hexadecimal digits, as the crate
-`vectors` reads them.
+are numbers of 64 bits, each written as 16 hexadecimal digits. The first one is
+the kind of the vector.
 """
 
 import random
 import struct
 import sys
 from fractions import Fraction
-from itertools import islice, permutations, product
+from itertools import permutations, product
 from pathlib import Path
 from typing import NamedTuple
 
@@ -21,7 +23,7 @@ from ledger_vectors import call_vectors
 import reference
 from reference import Meter
 
-CRATES = Path(__file__).resolve().parent.parent / 'crates'
+ROOT = Path(__file__).resolve().parent.parent
 
 LAST_U32 = 2**32 - 1
 LAST_U64 = 2**64 - 1
@@ -351,55 +353,80 @@ def ledger_vectors() -> list[Vector]:
 
 # 6. The files
 
-VECTORS = {'rounding_vectors': rounding_vectors, 'fuel_vectors': fuel_vectors,
-           'reading_vectors': reading_vectors, 'source_vectors': source_vectors,
-           'ledger_vectors': ledger_vectors}
+KINDS_OF_VECTORS = {'quotients': rounding_vectors, 'fuel lines': fuel_vectors,
+                    'readings': reading_vectors, 'sources': source_vectors,
+                    'calls on the ledger': ledger_vectors}
 
 
-def files_of(vectors: list[Vector]) -> dict[str, list[str]]:
-    """The lines of each file."""
-    return {'stdin': [' '.join(f'{field:016x}' for field in vector.fields) + '\n'
-                      for vector in vectors],
-            'stdout': [f'{vector.answer}\n' for vector in vectors]}
+class Case(NamedTuple):
+    """A vector as it stands in the files."""
+    name: str
+    stdin: bytes
+    stdout: bytes
 
 
-def vectors_of(crate: str) -> list[Vector]:
+def vectors_of(kind: str) -> list[Vector]:
     """Each vector once, save calls, whose answers go by the calls before."""
-    vectors = VECTORS[crate]()
-    return vectors if crate == 'ledger_vectors' else list(dict.fromkeys(vectors))
+    vectors = KINDS_OF_VECTORS[kind]()
+    return vectors if kind == 'calls on the ledger' else list(dict.fromkeys(vectors))
 
 
-def kept_lines(path: Path, expected: list[str]) -> list[str]:
-    """The file's lines, joined where an expected answer has several."""
-    lines = iter(path.read_text().splitlines(keepends=True) if path.exists() else [])
-    kept = [''.join(islice(lines, text.count('\n'))) for text in expected]
-    return [text for text in kept if text] + list(lines)
+def cases_of(number: int, kind: str) -> list[Case]:
+    """A line has the kind's number first."""
+    return [Case(f'{kind}, vector {at}',
+                 ' '.join(f'{field:016x}' for field in (number, *vector.fields)).encode() + b'\n',
+                 vector.answer.encode() + b'\n')
+            for at, vector in enumerate(vectors_of(kind), 1)]
 
 
-def write():
-    for crate in VECTORS:
-        for name, lines in files_of(vectors_of(crate)).items():
-            (CRATES / crate / name).write_text(''.join(lines))
+def all_cases() -> list[Case]:
+    cases = []
+    for number, kind in enumerate(KINDS_OF_VECTORS):
+        of_kind = cases_of(number, kind)
+        print(f'{kind}: {len(of_kind)} vectors')
+        cases += of_kind
+    print(f'{len(cases)} vectors in all')
+    return cases
 
 
-def check() -> int:
-    passed = failed = 0
-    for crate in VECTORS:
-        lines = files_of(vectors_of(crate))
-        kept = {name: kept_lines(CRATES / crate / name, lines[name]) for name in lines}
-        differing = [name for name in lines if kept[name] != lines[name]]
-        for name in differing:
-            print(f'crates/{crate}/{name} differs')
-        expected = list(zip(*lines.values()))
-        matching = sum(a == b for a, b in zip(expected, zip(*kept.values())))
-        passed += matching
-        # With every vector in place, a file that differs goes on after the last.
-        failed += len(expected) - matching or bool(differing)
-    print(f'{passed} passed, {failed} failed')
+FILES = ('stdin', 'stdout')
+
+
+def path_of(name: str) -> Path:
+    return ROOT / 'crates/vectors' / name
+
+
+def write(cases: list[Case]):
+    for name in FILES:
+        path_of(name).write_bytes(b''.join(getattr(case, name) for case in cases))
+
+
+def difference(name: str, cases: list[Case]) -> str | None:
+    """Where a file first differs from what would be written."""
+    if not path_of(name).exists():
+        return 'is missing'
+    kept, at = path_of(name).read_bytes(), 0
+    for case in cases:
+        expected = getattr(case, name)
+        found = kept[at:at + len(expected)]
+        if found != expected:
+            return f'differs at {case.name}: {found!r} in place of {expected!r}'
+        at += len(expected)
+    return None if at == len(kept) else f'goes on after the last vector: {kept[at:at + 80]!r}'
+
+
+def check(cases: list[Case]) -> int:
+    failed = 0
+    for name in FILES:
+        wrong = difference(name, cases)
+        if wrong is not None:
+            print(f'{path_of(name).relative_to(ROOT)} {wrong}')
+            failed += 1
+    print(f'{len(FILES) - failed} passed, {failed} failed')
     return 1 if failed else 0
 
 
 if __name__ == '__main__':
     if sys.argv[1:] == ['--check']:
-        sys.exit(check())
-    write()
+        sys.exit(check(all_cases()))
+    write(all_cases())

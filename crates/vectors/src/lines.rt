@@ -1,6 +1,6 @@
-// Test vectors as records of fixed width: a line of 64-bit fields, each of 16 lower-case hexadecimal
-// digits, with a space between two and a line feed at the end.
-ghost use Prim.Native.Nat.{_≤_};
+// A line of 64-bit fields, each of 16 lower-case hexadecimal digits, with a space between two and a line feed
+// at the end. Every line of one kind has the same number of fields.
+use fuel::FuelLine;
 use libc::STDIN_FILENO;
 use libc::STDOUT_FILENO;
 use metering::Interval;
@@ -9,9 +9,18 @@ use metering::Registers;
 use metering::Sign;
 use rounding::Direction;
 
-// Reads the next line, which has as many bytes as the slice, or answers that there is none.
+// Reads as many bytes of a line as the slice has, or answers that there are not so many.
 pub fn read_line(line: &mut [u8]) -> bool {
     io::read_full(STDIN_FILENO, line) == line.len()
+}
+
+// The first field of the next line, or a number that is no kind where there is no line.
+pub fn read_kind() -> u64 {
+    let mut first = [0u8; 17];
+    if read_line(&mut first) {
+        return field(&first, 0);
+    }
+    u64::MAX
 }
 
 // The value of a hexadecimal digit. The code of a letter is 64 and more, and its last four bits are 1 for
@@ -23,7 +32,7 @@ fn digit_value(digit: u8) -> u64 {
 
 // The value of the digit k of the field i, or 0 past the line's end.
 fn digit_at(line: &[u8], i: usize, k: usize) -> u64 {
-    // Both are in range: the remainders only spare a caller the proof of it.
+    // All numbers of fields and digits are in range: here and below the remainders only spare the proof of it.
     let place = i % 256 * 17 + k % 16;
     if place < line.len() {
         return digit_value(line[place]);
@@ -47,20 +56,37 @@ pub fn field(line: &[u8], i: usize) -> u64 {
     number
 }
 
-// The field i of a line, for a number of at most 32 bits.
+pub fn field_u8(line: &[u8], i: usize) -> u8 {
+    (field(line, i) % 0x100) as u8
+}
+
+pub fn field_u16(line: &[u8], i: usize) -> u16 {
+    (field(line, i) % 0x1_0000) as u16
+}
+
 pub fn field_u32(line: &[u8], i: usize) -> u32 {
     (field(line, i) % 0x1_0000_0000) as u32
 }
 
-// The field i of a line as a direction: 0 is up, and 1 down.
-pub fn field_direction(line: &[u8], i: usize) -> Direction {
-    if field(line, i) == 0 {
+// Up where the number is even, down where it is odd.
+pub fn direction(number: u64) -> Direction {
+    if number % 2 == 0 {
         return Direction::Up;
     }
     Direction::Down
 }
 
-// The field i of a line as a sign: 0 is +, and 1 -.
+// Three fields from i as a fuel line: Q, V and C.
+pub fn field_fuel_line(line: &[u8], i: usize) -> FuelLine {
+    let at = i % 256;
+    FuelLine {
+        quantity: field_u32(line, at),
+        ncv: field_u32(line, at + 1),
+        factor: field_u32(line, at + 2),
+    }
+}
+
+// The field i as a sign: 0 is +, and 1 -.
 fn field_sign(line: &[u8], i: usize) -> Sign {
     if field(line, i) == 0 {
         return Sign::Plus;
@@ -69,26 +95,35 @@ fn field_sign(line: &[u8], i: usize) -> Sign {
 }
 
 // Three fields from i as an interval: its kind, whole (0) or single (1), and its first and last reading.
-fn field_interval(line: &[u8], i: usize) -> Interval
-    requires { ⌜ i ≤ 253 ⌝ }
-{
-    if field(line, i) == 0 {
-        return Interval::Counts(field(line, i + 1), field(line, i + 2));
+fn field_interval(line: &[u8], i: usize) -> Interval {
+    let at = i % 256;
+    if field(line, at) == 0 {
+        return Interval::Counts(field(line, at + 1), field(line, at + 2));
     }
     Interval::Singles(Registers {
-        first: metering::register(field_u32(line, i + 1)),
-        last: metering::register(field_u32(line, i + 2)),
+        first: metering::register(field_u32(line, at + 1)),
+        last: metering::register(field_u32(line, at + 2)),
     })
 }
 
 // Four fields from i as a meter: its sign and its interval.
-pub fn field_meter(line: &[u8], i: usize) -> Meter
-    requires { ⌜ i ≤ 252 ⌝ }
-{
+fn field_meter(line: &[u8], i: usize) -> Meter {
+    let at = i % 256;
     Meter {
-        sign: field_sign(line, i),
-        interval: field_interval(line, i + 1),
+        sign: field_sign(line, at),
+        interval: field_interval(line, at + 1),
     }
+}
+
+// Sixteen fields from i as four meters.
+pub fn field_meters(line: &[u8], i: usize) -> [Meter; 4] {
+    let at = i % 256;
+    [
+        field_meter(line, at),
+        field_meter(line, at + 4),
+        field_meter(line, at + 8),
+        field_meter(line, at + 12),
+    ]
 }
 
 // Writes a line with a number.

@@ -1,19 +1,22 @@
--- `source_vectors::main` is safe and ends: the measure is the number of turns that are left. Assumes nothing.
+-- `vectors::main` is safe and ends: the measure is the number of turns that are left. Assumes nothing.
 use borrow.Author.Needs.{needs}
-use Rattle.source_vectors.proofs.main.Statement.{statement}
-use Rattle.source_vectors.proofs.main.Tie as tie
+use Rattle.vectors.proofs.main.Statement.{statement}
+use Rattle.vectors.proofs.main.Tie as tie
 
 abbrev Inv-loop : tie.InvT-loop
-Inv-loop turns₀ turns = Unit {0}
+Inv-loop last₀ turns₀ last turns = Unit {0}
 
 abbrev μ-loop : tie.MeasureT-loop
-μ-loop turns₀ turns = turns
+μ-loop last₀ turns₀ last turns = turns
+
+new-requires : tie.Need-new-requires Inv-loop μ-loop
+new-requires c κs = search needs
 
 loop-holds : tie.Need-loop-holds Inv-loop μ-loop
 loop-holds c = search needs
 
-answer-line-requires : tie.Need-answer-line-requires Inv-loop μ-loop
-answer-line-requires c κs = search needs
+next-turn-requires : tie.Need-next-turn-requires Inv-loop μ-loop
+next-turn-requires c κs = search needs
 
 sub-turns : tie.Need-sub-turns Inv-loop μ-loop
 sub-turns c = search needs
@@ -36,8 +39,9 @@ main-spec =
     (tie.spec
     Inv-loop
     μ-loop
+    new-requires
     loop-holds
-    answer-line-requires
+    next-turn-requires
     sub-turns
     loop-less
     loop-again

@@ -1,5 +1,4 @@
-// Makes the calls of each vector on the ledger that the call before left. The fields of a call are its
-// operation and its arguments:
+// A call on the ledger that the call before left: its operation and its arguments. Writes its answer.
 //   0  a new ledger
 //   1  grid entry: margin, thermal (0) or hydro (1)
 //   2  plant entry: number, site, generation, count, and Q, V and C of four fuel lines
@@ -13,16 +12,23 @@
 //   7  a grid entry, as 1
 //   8  a plant, as 2 and whether it stands
 //   9  a source, as 3 up to the measured loss, whether it stands, and its energy
-ghost use Prim.Native.Nat.{_≤_};
+use crate::lines::field;
+use crate::lines::field_fuel_line;
+use crate::lines::field_meters;
+use crate::lines::field_u8;
+use crate::lines::field_u16;
+use crate::lines::field_u32;
+use crate::lines::read_line;
+use crate::lines::write_number;
+use crate::lines::write_refused;
 use emissions::Grid;
 use emissions::GridEntry;
 use emissions::GridKind;
 use emissions::Loss;
 use emissions::Side;
 use emissions::Supply;
-use fuel::FuelLine;
-use ledger::Ledger;
 use ledger::LedgerKept;
+use ledger::Ledger;
 use libc::STDOUT_FILENO;
 use records::Answer;
 use records::GridRecord;
@@ -34,17 +40,9 @@ use report::Report;
 use report::Reported;
 use report::SideReport;
 
-fn field_u8(line: &[u8], i: usize) -> u8 {
-    (vectors::field(line, i) % 0x100) as u8
-}
-
-fn field_u16(line: &[u8], i: usize) -> u16 {
-    (vectors::field(line, i) % 0x1_0000) as u16
-}
-
 fn grid_entry(line: &[u8]) -> GridEntry {
-    let margin = vectors::field_u32(line, 1);
-    let kind = if vectors::field(line, 2) == 0 {
+    let margin = field_u32(line, 1);
+    let kind = if field(line, 2) == 0 {
         GridKind::Thermal
     } else {
         GridKind::Hydro
@@ -52,33 +50,22 @@ fn grid_entry(line: &[u8]) -> GridEntry {
     GridEntry { margin, kind }
 }
 
-// The fuel line whose quantity is the field i.
-fn fuel_line(line: &[u8], i: usize) -> FuelLine
-    requires { ⌜ i ≤ 14 ⌝ }
-{
-    FuelLine {
-        quantity: vectors::field_u32(line, i),
-        ncv: vectors::field_u32(line, i + 1),
-        factor: vectors::field_u32(line, i + 2),
-    }
-}
-
 fn plant(line: &[u8]) -> Plant {
     Plant {
         site: field_u8(line, 2),
-        generation: vectors::field_u32(line, 3),
+        generation: field_u32(line, 3),
         lines: [
-            fuel_line(line, 5),
-            fuel_line(line, 8),
-            fuel_line(line, 11),
-            fuel_line(line, 14),
+            field_fuel_line(line, 5),
+            field_fuel_line(line, 8),
+            field_fuel_line(line, 11),
+            field_fuel_line(line, 14),
         ],
         count: field_u8(line, 4),
     }
 }
 
 fn side(line: &[u8]) -> Side {
-    match vectors::field(line, 2) {
+    match field(line, 2) {
         0 => Side::Project,
         1 => Side::Leakage,
         _ => Side::Baseline,
@@ -87,7 +74,7 @@ fn side(line: &[u8]) -> Side {
 
 fn supply(line: &[u8]) -> Supply {
     let site = field_u8(line, 4);
-    match vectors::field(line, 3) {
+    match field(line, 3) {
         0 => Supply::Combined,
         1 => Supply::GridDefault,
         2 => Supply::Captive(site),
@@ -98,7 +85,7 @@ fn supply(line: &[u8]) -> Supply {
 
 fn loss(line: &[u8]) -> Loss {
     let measured = field_u16(line, 6);
-    match vectors::field(line, 5) {
+    match field(line, 5) {
         0 => Loss::Nothing,
         1 => Loss::Measured(measured),
         2 => Loss::Default20,
@@ -111,12 +98,7 @@ fn source_entry(line: &[u8]) -> SourceEntry {
         side: side(line),
         supply: supply(line),
         loss: loss(line),
-        meters: [
-            vectors::field_meter(line, 8),
-            vectors::field_meter(line, 12),
-            vectors::field_meter(line, 16),
-            vectors::field_meter(line, 20),
-        ],
+        meters: field_meters(line, 8),
         count: field_u8(line, 7),
     }
 }
@@ -136,22 +118,22 @@ fn with_grid(ledger: Ledger, entry: GridEntry) -> Ledger {
 
 // The ledger with a plant in its place, whatever it holds.
 fn with_plant(mut ledger: Ledger, line: &[u8]) -> Ledger {
-    let at = (vectors::field(line, 1) % 8) as usize;
+    let at = (field(line, 1) % 8) as usize;
     let mut held = PlantRecord::of(plant(line));
-    held.stands = vectors::field(line, 17) != 0;
+    held.stands = field(line, 17) != 0;
     ledger.plants[at] = held;
     ledger
 }
 
 // The ledger with a source in its place, whatever it holds.
 fn with_source(mut ledger: Ledger, line: &[u8]) -> Ledger {
-    let at = (vectors::field(line, 1) % 32) as usize;
+    let at = (field(line, 1) % 32) as usize;
     ledger.sources[at] = SourceRecord {
-        stands: vectors::field(line, 7) != 0,
+        stands: field(line, 7) != 0,
         side: side(line),
         supply: supply(line),
         loss: loss(line),
-        energy: vectors::field(line, 8),
+        energy: field(line, 8),
     };
     ledger
 }
@@ -164,7 +146,7 @@ fn answered(kept: LedgerKept) -> Ledger {
             io::write_all(STDOUT_FILENO, b"ok\n");
         }
         Answer::Refused(number) => {
-            vectors::write_refused(number);
+            write_refused(number);
         }
     }
     kept.ledger
@@ -176,22 +158,14 @@ fn write_side(name: &[u8], side: SideReport) {
     io::write_all(STDOUT_FILENO, b" ");
     io::print_decimal(STDOUT_FILENO, side.grams);
     io::write_all(STDOUT_FILENO, b" ");
-    vectors::write_number(side.sources as u64);
-}
-
-// The magnitude of a number. The smallest has no opposite in its own type.
-fn magnitude(number: i64) -> u64 {
-    if number < 0 {
-        return (-1 - number) as u64 + 1;
-    }
-    number as u64
+    write_number(side.sources as u64);
 }
 
 fn write_signed(number: i64) {
     if number < 0 {
         io::write_all(STDOUT_FILENO, b"-");
     }
-    vectors::write_number(magnitude(number));
+    write_number(text::magnitude(number));
 }
 
 fn write_report(report: Report) {
@@ -210,13 +184,13 @@ fn reported(ledger: Ledger) -> Ledger {
             io::write_all(STDOUT_FILENO, b"damaged\n");
         }
         Reported::Refused(number) => {
-            vectors::write_refused(number);
+            write_refused(number);
         }
         Reported::RefusedAt(number, source) => {
             io::write_all(STDOUT_FILENO, b"refused ");
             io::print_decimal(STDOUT_FILENO, number as u64);
             io::write_all(STDOUT_FILENO, b" source ");
-            vectors::write_number(source as u64);
+            write_number(source as u64);
         }
         Reported::Given(report) => {
             write_report(report);
@@ -233,7 +207,7 @@ fn new_ledger() -> Ledger {
 // Makes a call, answers it, and hands on the ledger that it left.
 fn called(ledger: Ledger, line: &[u8]) -> Ledger {
     let number = field_u8(line, 1);
-    match vectors::field(line, 0) {
+    match field(line, 0) {
         0 => new_ledger(),
         1 => answered(ledger.enter_grid(grid_entry(line))),
         2 => answered(ledger.enter_plant(number, plant(line))),
@@ -247,15 +221,15 @@ fn called(ledger: Ledger, line: &[u8]) -> Ledger {
     }
 }
 
-// The ledger after a line's call, and whether there was a line.
-struct Turn {
-    ledger: Ledger,
-    read: bool,
+// The ledger after a line, and whether there was a line.
+pub struct Turn {
+    pub ledger: Ledger,
+    pub read: bool,
 }
 
-fn next_turn(ledger: Ledger) -> Turn {
+pub fn answer_line(ledger: Ledger) -> Turn {
     let mut line = [0u8; 408];
-    if vectors::read_line(&mut line) {
+    if read_line(&mut line) {
         return Turn {
             ledger: called(ledger, &line),
             read: true,
@@ -264,18 +238,5 @@ fn next_turn(ledger: Ledger) -> Turn {
     Turn {
         ledger,
         read: false,
-    }
-}
-
-fn main() {
-    let mut last = Turn {
-        ledger: Ledger::new(),
-        read: true,
-    };
-    // Nothing says that the input ends, so the turns are counted down.
-    let mut turns = u64::MAX;
-    while turns > 0 && last.read {
-        last = next_turn(last.ledger);
-        turns -= 1;
     }
 }

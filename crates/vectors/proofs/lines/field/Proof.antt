@@ -1,8 +1,8 @@
--- `vectors::field` is safe and ends: the measure is the number of digits that are left. Assumes nothing.
+-- `vectors::lines::field` is safe and ends: the measure is the number of digits that are left. Assumes nothing.
 use Prim.Native.Nat.{_-_, _≤_}
 use borrow.Author.Needs.{needs}
-use Rattle.vectors.proofs.field.Statement.{statement}
-use Rattle.vectors.proofs.field.Tie as tie
+use Rattle.vectors.proofs.lines.field.Statement.{statement}
+use Rattle.vectors.proofs.lines.field.Tie as tie
 
 abbrev Inv-loop : tie.InvT-loop
 Inv-loop line i number₀ k₀ number k = k ≤ 16

@@ -1,0 +1,25 @@
+// A fuel line: a direction, up (0) or down (1), Q, V and C. Writes its milligrams of CO2, or that it is refused.
+use crate::lines::direction;
+use crate::lines::field;
+use crate::lines::field_fuel_line;
+use crate::lines::read_line;
+use crate::lines::write_number;
+use crate::lines::write_refused;
+use fuel::Milligrams;
+
+pub fn answer_line() -> bool {
+    let mut line = [0u8; 68];
+    if read_line(&mut line) {
+        let up_or_down = direction(field(&line, 0));
+        match field_fuel_line(&line, 1).milligrams(up_or_down) {
+            Milligrams::Refused => {
+                write_refused(2);
+            }
+            Milligrams::Rounded(milligrams) => {
+                write_number(milligrams);
+            }
+        }
+        return true;
+    }
+    false
+}
