@@ -1,4 +1,4 @@
-// A list of calls for the programs of crates/measure: every kind of call, accepted and refused, numbers out of
+// A list of calls for the program of crates/measure: every kind of call, accepted and refused, numbers out of
 // range among them. The generator begins anew for each list, so that every run measures the same one.
 #include <stdbool.h>
 #include <stddef.h>

@@ -1,7 +1,7 @@
-// For measuring from C: each function makes a ledger, works on it as often as asked, and answers a number that
-// depends on what came back, so that no part of the work can be left out. An operation is measured in two
-// forms: `owner_` hands it one record and stores what is kept, `value_` hands it the whole ledger. Each is
-// called in two functions at least: with one caller alone the compiler would merge it into that one.
+// For measuring from C: each function makes a ledger, works on it, and answers a number that depends on what
+// came back, so that no part of the work can be left out. `owner_` hands an operation one record and stores what
+// is kept. Each operation is called in two functions: with one caller alone the compiler would merge it into
+// that one.
 use emissions::Grid;
 use emissions::GridEntry;
 use emissions::GridKind;
@@ -135,18 +135,6 @@ fn full(words: &[u32]) -> Ledger {
     }
 }
 
-// The entries that are made anew in each turn, from the caller's numbers.
-fn grid_at(words: &[u32], i: u32) -> GridEntry {
-    GridEntry {
-        margin: word(words, (i % 32) as usize),
-        kind: GridKind::Hydro,
-    }
-}
-
-fn plant_at(words: &[u32], i: u32) -> Plant {
-    plant(word(words, (i % 32) as usize))
-}
-
 fn singles(first: u32, last: u32) -> Interval {
     Interval::Singles(Registers {
         first: metering::register(first),
@@ -178,49 +166,7 @@ pub extern "C" fn measure_new(number: u32) -> u64 {
     folded(plant.generation as u64, source.energy)
 }
 
-// Each of these makes the ledger in place and does one operation so many times, each on what the one before
-// left. The array that the operation leaves alone is read at a place that the compiler does not know: it would
-// drop what nothing reads.
-
-#[no_mangle]
-pub extern "C" fn owner_grid(words: &[u32], times: u32) -> u64 {
-    let mut ledger = full(words);
-    let mut sum: u64 = 0;
-    let mut i: u32 = 0;
-    while i < times {
-        let held = ledger.grid;
-        let done = held.entered(grid_at(words, i));
-        let kept = done.kept;
-        let answer = done.answer;
-        ledger.grid = kept;
-        sum = with_answer(sum, answer);
-        i += 1;
-    }
-    let at = (times % 32) as usize;
-    let plant = ledger.plants[at % 8];
-    let source = ledger.sources[at];
-    folded(sum, folded(plant.generation as u64, source.energy))
-}
-
-#[no_mangle]
-pub extern "C" fn owner_plant(words: &[u32], times: u32) -> u64 {
-    let mut ledger = full(words);
-    let mut sum: u64 = 0;
-    let mut i: u32 = 0;
-    while i < times {
-        let at = (i % 8) as usize;
-        let held = ledger.plants[at];
-        let done = held.entered((i % 8) as u8, plant_at(words, i));
-        let kept = done.kept;
-        let answer = done.answer;
-        ledger.plants[at] = kept;
-        sum = with_answer(sum, answer);
-        i += 1;
-    }
-    let source = ledger.sources[(times % 32) as usize];
-    folded(sum, source.energy)
-}
-
+// So many entries of a source with four single meters, each on what the one before left.
 #[no_mangle]
 pub extern "C" fn owner_source(words: &[u32], times: u32, first: u32, last: u32) -> u64 {
     let mut ledger = full(words);
@@ -236,130 +182,6 @@ pub extern "C" fn owner_source(words: &[u32], times: u32, first: u32, last: u32)
         ledger.sources[at] = kept;
         let held = ledger.sources[at];
         sum = folded(with_answer(sum, answer), held.energy);
-        i += 1;
-    }
-    let plant = ledger.plants[(times % 8) as usize];
-    folded(sum, plant.generation as u64)
-}
-
-#[no_mangle]
-pub extern "C" fn owner_drop_plant(words: &[u32], times: u32) -> u64 {
-    let mut ledger = full(words);
-    let mut sum: u64 = 0;
-    let mut i: u32 = 0;
-    while i < times {
-        let at = (i % 8) as usize;
-        let held = ledger.plants[at];
-        let done = held.dropped((i % 8) as u8);
-        let kept = done.kept;
-        let answer = done.answer;
-        ledger.plants[at] = kept;
-        sum = with_answer(sum, answer);
-        i += 1;
-    }
-    let source = ledger.sources[(times % 32) as usize];
-    folded(sum, source.energy)
-}
-
-#[no_mangle]
-pub extern "C" fn owner_drop_source(words: &[u32], times: u32) -> u64 {
-    let mut ledger = full(words);
-    let mut sum: u64 = 0;
-    let mut i: u32 = 0;
-    while i < times {
-        let at = (i % 32) as usize;
-        let held = ledger.sources[at];
-        let done = held.dropped((i % 32) as u8);
-        let kept = done.kept;
-        let answer = done.answer;
-        ledger.sources[at] = kept;
-        sum = with_answer(sum, answer);
-        i += 1;
-    }
-    let plant = ledger.plants[(times % 8) as usize];
-    folded(sum, plant.generation as u64)
-}
-
-// The same by value.
-
-#[no_mangle]
-pub extern "C" fn value_grid(words: &[u32], times: u32) -> u64 {
-    let mut ledger = full(words);
-    let mut sum: u64 = 0;
-    let mut i: u32 = 0;
-    while i < times {
-        let entered = ledger.enter_grid(grid_at(words, i));
-        let answer = entered.answer;
-        ledger = entered.ledger;
-        sum = with_answer(sum, answer);
-        i += 1;
-    }
-    let at = (times % 32) as usize;
-    let plant = ledger.plants[at % 8];
-    let source = ledger.sources[at];
-    folded(sum, folded(plant.generation as u64, source.energy))
-}
-
-#[no_mangle]
-pub extern "C" fn value_plant(words: &[u32], times: u32) -> u64 {
-    let mut ledger = full(words);
-    let mut sum: u64 = 0;
-    let mut i: u32 = 0;
-    while i < times {
-        let entered = ledger.enter_plant((i % 8) as u8, plant_at(words, i));
-        let answer = entered.answer;
-        ledger = entered.ledger;
-        sum = with_answer(sum, answer);
-        i += 1;
-    }
-    let source = ledger.sources[(times % 32) as usize];
-    folded(sum, source.energy)
-}
-
-#[no_mangle]
-pub extern "C" fn value_source(words: &[u32], times: u32, first: u32, last: u32) -> u64 {
-    let mut ledger = full(words);
-    let entry = four_singles(first, last);
-    let mut sum: u64 = 0;
-    let mut i: u32 = 0;
-    while i < times {
-        let entered = ledger.enter_source((i % 32) as u8, entry);
-        let answer = entered.answer;
-        ledger = entered.ledger;
-        let held = ledger.sources[(i % 32) as usize];
-        sum = folded(with_answer(sum, answer), held.energy);
-        i += 1;
-    }
-    let plant = ledger.plants[(times % 8) as usize];
-    folded(sum, plant.generation as u64)
-}
-
-#[no_mangle]
-pub extern "C" fn value_drop_plant(words: &[u32], times: u32) -> u64 {
-    let mut ledger = full(words);
-    let mut sum: u64 = 0;
-    let mut i: u32 = 0;
-    while i < times {
-        let entered = ledger.drop_plant((i % 8) as u8);
-        let answer = entered.answer;
-        ledger = entered.ledger;
-        sum = with_answer(sum, answer);
-        i += 1;
-    }
-    let source = ledger.sources[(times % 32) as usize];
-    folded(sum, source.energy)
-}
-
-#[no_mangle]
-pub extern "C" fn value_drop_source(words: &[u32], times: u32) -> u64 {
-    let mut ledger = full(words);
-    let mut sum: u64 = 0;
-    let mut i: u32 = 0;
-    while i < times {
-        let entered = ledger.drop_source((i % 32) as u8);
-        let answer = entered.answer;
-        ledger = entered.ledger;
-        sum = with_answer(sum, answer);
         i += 1;
     }
     let plant = ledger.plants[(times % 8) as usize];
@@ -383,7 +205,7 @@ pub extern "C" fn measure_report(words: &[u32], times: u32) -> u64 {
     sum
 }
 
-// A call of the programs below: an entry of the grid (0), of a plant (1) or of a source (2), a drop of a plant
+// A call of the functions below: an entry of the grid (0), of a plant (1) or of a source (2), a drop of a plant
 // (3) or of a source (4), or a report. Each field of an entry is a decimal digit of `fields`, from the last one
 // on: of a grid its kind, of a plant its site and count, of a source its side, supply, site, loss, count and
 // meters.
@@ -476,6 +298,87 @@ fn source_entry(call: Call) -> SourceEntry {
     }
 }
 
+// What is read of a ledger: of its grid, a plant and a source.
+fn read_back(record: GridRecord, plant: PlantRecord, source: SourceRecord) -> u64 {
+    let records = folded(plant.generation as u64, source.energy);
+    let grid = record.grid;
+    match grid {
+        Grid::Absent => records,
+        Grid::Entered(entry) => folded(records, entry.margin as u64),
+    }
+}
+
+// Each of these makes the ledger in place, does one operation on a record of it, stores what is kept, and reads
+// the ledger at places that the compiler does not know: it would drop what nothing reads. The operation's
+// arguments are those of the call i, so that it cannot know the answer either. Each reads the records by itself:
+// a function that takes the ledger would take a copy of it.
+
+#[no_mangle]
+pub extern "C" fn owner_grid(words: &[u32], i: u32) -> u64 {
+    let mut ledger = full(words);
+    let call = call_at(words, i as usize);
+    let held = ledger.grid;
+    let done = held.entered(grid_entry(call));
+    let kept = done.kept;
+    let answer = done.answer;
+    ledger.grid = kept;
+    let at = (word(words, 3) % 32) as usize;
+    let plant = ledger.plants[at % 8];
+    let source = ledger.sources[at];
+    with_answer(read_back(ledger.grid, plant, source), answer)
+}
+
+#[no_mangle]
+pub extern "C" fn owner_plant(words: &[u32], i: u32) -> u64 {
+    let mut ledger = full(words);
+    let call = call_at(words, i as usize);
+    let number = call.number;
+    let at = (number % 8) as usize;
+    let held = ledger.plants[at];
+    let done = held.entered(number, plant_entry(call));
+    let kept = done.kept;
+    let answer = done.answer;
+    ledger.plants[at] = kept;
+    let at = (word(words, 3) % 32) as usize;
+    let plant = ledger.plants[at % 8];
+    let source = ledger.sources[at];
+    with_answer(read_back(ledger.grid, plant, source), answer)
+}
+
+#[no_mangle]
+pub extern "C" fn owner_drop_plant(words: &[u32], i: u32) -> u64 {
+    let mut ledger = full(words);
+    let call = call_at(words, i as usize);
+    let number = call.number;
+    let at = (number % 8) as usize;
+    let held = ledger.plants[at];
+    let done = held.dropped(number);
+    let kept = done.kept;
+    let answer = done.answer;
+    ledger.plants[at] = kept;
+    let at = (word(words, 3) % 32) as usize;
+    let plant = ledger.plants[at % 8];
+    let source = ledger.sources[at];
+    with_answer(read_back(ledger.grid, plant, source), answer)
+}
+
+#[no_mangle]
+pub extern "C" fn owner_drop_source(words: &[u32], i: u32) -> u64 {
+    let mut ledger = full(words);
+    let call = call_at(words, i as usize);
+    let number = call.number;
+    let at = (number % 32) as usize;
+    let held = ledger.sources[at];
+    let done = held.dropped(number);
+    let kept = done.kept;
+    let answer = done.answer;
+    ledger.sources[at] = kept;
+    let at = (word(words, 3) % 32) as usize;
+    let plant = ledger.plants[at % 8];
+    let source = ledger.sources[at];
+    with_answer(read_back(ledger.grid, plant, source), answer)
+}
+
 // What a call leaves in the record that it names, and what a report says. Entries and reports are made in these
 // functions, since the program's own frame would hold them in every call.
 fn grid_after(held: GridRecord, call: Call) -> GridKept {
@@ -543,56 +446,6 @@ pub extern "C" fn owner_program(words: &[u32]) -> u64 {
             }
             _ => {
                 sum = folded(sum, report_told(ledger));
-            }
-        }
-        i += 1;
-    }
-    sum
-}
-
-// The same by value.
-#[no_mangle]
-pub extern "C" fn value_program(words: &[u32]) -> u64 {
-    let mut ledger = Ledger::new();
-    let mut sum: u64 = 0;
-    let mut i: usize = 0;
-    while i < words.len() / 4 {
-        let call = call_at(words, i);
-        let kind = call.kind;
-        let number = call.number;
-        match kind {
-            0 => {
-                let entered = ledger.enter_grid(grid_entry(call));
-                let answer = entered.answer;
-                ledger = entered.ledger;
-                sum = with_answer(sum, answer);
-            }
-            1 => {
-                let entered = ledger.enter_plant(number, plant_entry(call));
-                let answer = entered.answer;
-                ledger = entered.ledger;
-                sum = with_answer(sum, answer);
-            }
-            2 => {
-                let entered = ledger.enter_source(number, source_entry(call));
-                let answer = entered.answer;
-                ledger = entered.ledger;
-                sum = with_answer(sum, answer);
-            }
-            3 => {
-                let entered = ledger.drop_plant(number);
-                let answer = entered.answer;
-                ledger = entered.ledger;
-                sum = with_answer(sum, answer);
-            }
-            4 => {
-                let entered = ledger.drop_source(number);
-                let answer = entered.answer;
-                ledger = entered.ledger;
-                sum = with_answer(sum, answer);
-            }
-            _ => {
-                sum = folded(sum, grams_of(ledger.report()));
             }
         }
         i += 1;
