@@ -86,9 +86,9 @@ fn plant(seed: u32) -> Plant {
     };
     Plant {
         site: (seed % 4) as u8,
-        count: 4,
+        count: Plant::LINES_LIMIT,
         generation: 70_000,
-        lines: [line; 4],
+        lines: [line; Plant::LINE_PLACES],
     }
 }
 
@@ -120,7 +120,7 @@ fn source_record(seed: u32) -> SourceRecord {
 fn grid_record(margin: u32) -> GridRecord {
     GridRecord {
         grid: Grid::Entered(GridEntry {
-            margin: margin % 10_000_000,
+            margin: margin % Grid::FACTOR_LIMIT,
             kind: GridKind::Thermal,
         }),
     }
@@ -130,8 +130,8 @@ fn grid_record(margin: u32) -> GridRecord {
 fn full(words: &[u32]) -> Ledger {
     Ledger {
         grid: grid_record(word(words, 0)),
-        plants: [plant_record(word(words, 1)); 8],
-        sources: [source_record(word(words, 2)); 32],
+        plants: [plant_record(word(words, 1)); Plant::PLACES],
+        sources: [source_record(word(words, 2)); Source::PLACES],
     }
 }
 
@@ -150,10 +150,10 @@ fn four_singles(first: u32, last: u32) -> SourceEntry {
     };
     SourceEntry {
         side: Side::Project,
-        count: 4,
+        count: Meter::COUNT_LIMIT,
         supply: Supply::Combined,
         loss: Loss::Default20,
-        meters: [meter; 4],
+        meters: [meter; Meter::PLACES],
     }
 }
 
@@ -259,7 +259,7 @@ fn plant_entry(call: Call) -> Plant {
         site: (call.fields % 10) as u8,
         count: (call.fields / 10 % 10) as u8,
         generation: call.first,
-        lines: [line; 4],
+        lines: [line; Plant::LINE_PLACES],
     }
 }
 
@@ -409,8 +409,8 @@ fn report_told(ledger: Ledger) -> u64 {
 pub extern "C" fn owner_program(words: &[u32]) -> u64 {
     let mut ledger = Ledger {
         grid: GridRecord::empty(),
-        plants: [PlantRecord::empty(); 8],
-        sources: [SourceRecord::empty(); 32],
+        plants: [PlantRecord::empty(); Plant::PLACES],
+        sources: [SourceRecord::empty(); Source::PLACES],
     };
     let mut sum: u64 = 0;
     let mut i: usize = 0;

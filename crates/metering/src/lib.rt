@@ -60,9 +60,9 @@ pub struct Meter {
 
 impl Meter {
     // The most meters of a source, and the places for them in an entry.
-    pub const LIMIT: u8 = 4;
+    pub const COUNT_LIMIT: u8 = 4;
 
-    pub const PLACES: usize = Meter::LIMIT as usize;
+    pub const PLACES: usize = Meter::COUNT_LIMIT as usize;
 }
 
 // A reading in whole watt-hours, or that it is refused (number 3).
@@ -331,7 +331,7 @@ pub fn judge_meters(meters: [Meter; Meter::PLACES], count: u8, direction: Direct
     if count == 0 {
         return MetersJudged::Refused(2);
     }
-    if count > Meter::LIMIT {
+    if count > Meter::COUNT_LIMIT {
         return MetersJudged::Refused(2);
     }
     let MeterRead::Moved(adds, takes, back) = read_meters(meters, count as usize, direction) else {

@@ -116,7 +116,7 @@ fn field_meter(line: &[u8], i: usize) -> Meter {
 }
 
 // Sixteen fields from i as four meters.
-pub fn field_meters(line: &[u8], i: usize) -> [Meter; 4] {
+pub fn field_meters(line: &[u8], i: usize) -> [Meter; Meter::PLACES] {
     let at = i % 256;
     [
         field_meter(line, at),
