@@ -3,10 +3,15 @@
     names.py    README.md and docs/*.md
 
 A name is a word in `code` quotes. What looks like a path is a file or a folder, a must-fail edit
-(CRATE/LABEL) or a file of definitions or laws (CRATE/specs/FILE); any other name has to be declared in
-the code (a function, a type, a case, a constant, a field) or in definitions and laws, or to be one of
-the repository's files. Words of the text form, commands and formulas are passed over: they are one letter
-or have a space, a bracket or another sign that no name has. Prints what is missing, and last `N passed, M failed`.
+(CRATE/LABEL) or a file of definitions or laws (CRATE/specs/FILE); any other name has to stand in the code,
+the definitions or the laws, comments left out, or to be an edit's. Words of the text form, commands and
+formulas are passed over: they are one letter or have a space, a bracket or another sign that no name has.
+
+The tables of docs/PROVED.md name edits with marks: (t) for one of tests/wrong, (d) for one of a definition,
+(c) for one of a contract. Each edit has to be where and what its marks say, and each edit that there is
+has to be named in a row of its crate.
+
+Prints what is wrong, and last `N passed, M failed`.
 """
 
 import re
@@ -17,56 +22,99 @@ ROOT = Path(__file__).resolve().parent.parent
 DOCUMENTS = [ROOT / 'README.md', *sorted((ROOT / 'docs').glob('*.md'))]
 CODED = re.compile(r'`([^`\n]+)`')
 NAME = re.compile(r"[A-Za-z_][\w'ᵣ·-]+(?:(?:::|\.|/)[A-Za-z_*][\w'*-]*)*(?:\.\.)?")
+MARKED = re.compile(r'`((?:\w+/)?[a-z_0-9]+)`((?: \([tdc]\))*)')
 
 # Words of the text form, of formulas and of the toolchain, which nothing declares.
 WORDS = {'ok', 'refused', 'damaged', 'project', 'leakage', 'baseline', 'thermal', 'hydro', 'rt', 'io', 'libc', 'extern',
          'requires', 'ensures', 'usize', 'code', 'python3', 'valgrind'}
 
 
-def declared() -> set[str]:
+def edits() -> dict[str, Path]:
+    """The edits by CRATE/LABEL; those of tests/wrong after a (t)."""
+    gate = {f'{path.parts[-3]}/{path.stem}': path for path in ROOT.glob('crates/*/must-fail/*.edit')}
+    beside = {f'(t){path.parts[-2]}/{path.stem}': path for path in ROOT.glob('tests/wrong/*/*.edit')}
+    return gate | beside
+
+
+def words() -> set[str]:
     """Each word that stands in the code, the definitions or the laws, comments left out."""
-    names = set()
+    found = {path.name for path in (ROOT / 'crates').iterdir()}
     for path in (ROOT / 'crates').rglob('*'):
         if path.suffix not in ('.rt', '.antt'):
             continue
         comment = '//' if path.suffix == '.rt' else '--'
         for line in path.read_text(encoding='utf-8').split('\n'):
-            names |= set(re.findall(r"[A-Za-z_][\w'ᵣ·-]*", line.split(comment)[0]))
-    return names
+            found |= set(re.findall(r"[A-Za-z_][\w'ᵣ·-]*", line.split(comment)[0]))
+    return found
 
 
-def stands(name: str, names: set[str]) -> bool:
-    if (ROOT / name).exists() or (ROOT / 'crates' / name).exists() or (ROOT / 'target' / name).exists():
-        return True
-    parts = name.split('/')
-    if len(parts) == 2 and (ROOT / 'crates' / parts[0] / 'must-fail' / f'{parts[1]}.edit').exists():
-        return True
-    if (ROOT / 'crates' / f'{name}.antt').exists():
-        return True
-    if len(parts) > 1:
-        return False
-    edits = (ROOT / 'crates').glob(f'*/must-fail/{name}.edit')
-    wrong = (ROOT / 'tests/wrong').glob(f'*/{name}.edit')
-    if any(edits) or any(wrong):
+def stands(name: str, known: set[str], labels: set[str]) -> bool:
+    places = (ROOT / name, ROOT / 'crates' / name, ROOT / 'crates' / f'{name}.antt')
+    if any(place.exists() for place in places) or name in labels:
         return True
     if name.endswith('..'):
-        return any(known.startswith(name[:-2]) for known in names)
-    crates = {path.name for path in (ROOT / 'crates').iterdir()}
-    return all(part in names or part in crates for part in re.split(r'::|\.', name))
+        return any(word.startswith(name[:-2]) for word in known)
+    return '/' not in name and all(part in known for part in re.split(r'::|\.', name))
 
 
-def main() -> int:
-    names, passed, failed = declared(), 0, 0
+def missing_names(made: dict[str, Path]) -> tuple[int, list[str]]:
+    known = words()
+    labels = {*made, *(path.stem for path in made.values())}
+    looked_up, wrong = 0, []
     for document in DOCUMENTS:
         cited = set(CODED.findall(document.read_text(encoding='utf-8'))) - WORDS
         for name in sorted(name for name in cited if NAME.fullmatch(name)):
-            if stands(name, names):
-                passed += 1
-            else:
-                failed += 1
-                print(f'{document.relative_to(ROOT)}: `{name}` is nowhere')
-    print(f'{passed} passed, {failed} failed')
-    return 1 if failed or not passed else 0
+            looked_up += 1
+            if not stands(name, known, labels):
+                wrong.append(f'{document.relative_to(ROOT)}: `{name}` is nowhere')
+    return looked_up, wrong
+
+
+def marks_of(path: Path) -> set[str]:
+    """What an edit is of: a definition, a contract, or the code, which has no mark."""
+    text = path.read_text(encoding='utf-8')
+    if text.startswith('file: specs/'):
+        return {'d'}
+    return {'c'} if re.search(r'^old: *ensures', text, re.MULTILINE) else set()
+
+
+def named_edits() -> list[tuple[str, str, set[str]]]:
+    """Crate, label and marks of each edit that a table of docs/PROVED.md names."""
+    text = (ROOT / 'docs/PROVED.md').read_text(encoding='utf-8')
+    rows = re.findall(r'^\|.*\|$', text[text.index('| Worthless build'):], re.MULTILINE)
+    named = []
+    for row in rows:
+        *first, last = row.strip('| ').split(' | ')
+        crate = re.match(r'\w+', first[0]).group() if first else ''
+        for name, marks in MARKED.findall(last):
+            of, label = name.split('/') if '/' in name else (crate, name)
+            named.append((of, label, set(re.findall(r'[tdc]', marks))))
+    return named
+
+
+def wrong_edits(made: dict[str, Path]) -> tuple[int, list[str]]:
+    wrong, met = [], set()
+    named = named_edits()
+    for crate, label, marks in named:
+        key = f'{"(t)" if "t" in marks else ""}{crate}/{label}'
+        met.add(key)
+        if key not in made:
+            wrong.append(f'docs/PROVED.md: there is no edit {key}')
+        elif marks_of(made[key]) != marks - {'t'}:
+            wrong.append(f'docs/PROVED.md: {key} is marked {sorted(marks - {"t"})}')
+    wrong += [f'docs/PROVED.md does not name the edit {key}' for key in sorted(made.keys() - met)]
+    return len(named) + len(made), wrong
+
+
+def main() -> int:
+    made = edits()
+    looked_up, wrong = missing_names(made)
+    compared, unlike = wrong_edits(made)
+    for what in wrong + unlike:
+        print(what)
+    failed = len(wrong + unlike)
+    print(f'{looked_up + compared - failed} passed, {failed} failed')
+    return 1 if failed or not looked_up or not compared else 0
 
 
 if __name__ == '__main__':

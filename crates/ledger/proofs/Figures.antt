@@ -108,7 +108,7 @@ source-safe s h n e at f q =
 
 -- ---- the list of figures
 
--- A source of the books is that of a standing entry.
+-- A source that a report reads is that of a standing entry.
 abbrev Shown : Standing → Numbered Source → Type 0
 Shown s x = (e : SourceEntry) × (s .source (x .number) ≡ some e) × (x .item ≡ kept e (energyOf e))
 

@@ -27,9 +27,9 @@ Inv-loop grid plants totals sources sums₀ i₀ sums i =
 abbrev μ-loop : tie.MeasureT-loop
 μ-loop grid plants totals sources sums₀ i₀ sums i = 32 - i
 
--- The books that are walked, and the source at the number.
-abbrev inputOfStanding : tie.At-loop Inv-loop μ-loop → ReportInput
-inputOfStanding c = let a = c .before .before .args in inputOfRecords (a .grid) (a .plants) (a .t3)
+-- The records that are walked, as the report reads them, and the source at the number.
+abbrev walked : tie.At-loop Inv-loop μ-loop → ReportInput
+walked c = let a = c .before .before .args in inputOfRecords (a .grid) (a .plants) (a .t3)
 
 abbrev source : tie.At-loop Inv-loop μ-loop → Source
 source c = heldSource (getD (c .before .before .args .t3) (c .loop .i) noSource)
@@ -52,7 +52,7 @@ array-copy-out-held : tie.Need-array-copy-out-held Inv-loop μ-loop
 array-copy-out-held c = search needs
 
 -- A source stands there.
-stands : (c : tie.After-source Inv-loop μ-loop) → let l = c .before .before .before .before in inputOfStanding l .source (l .loop .i) ≡ some (source l)
+stands : (c : tie.After-source Inv-loop μ-loop) → let l = c .before .before .before .before in walked l .source (l .loop .i) ≡ some (source l)
 unfolding noSource
 stands c = rw (c .before .if1 .taken)
 
@@ -67,12 +67,12 @@ source-figure-requires c κs =
       pre .0,
       pre .1,
       rw (c .source .ensures) (subst (λ (o : Option Source). sourceIntact o ≡ true) (stands c)
-          (intact-at sourceIntact (inputOfStanding l .source) 32 (l .loop .i) (pre .2) (c .before .before .before .loop-test .taken))),
+          (intact-at sourceIntact (walked l .source) 32 (l .loop .i) (pre .2) (c .before .before .before .loop-test .taken))),
     )
 
 -- The call gave its figure.
 judged : (c : tie.After-source-figure Inv-loop μ-loop)
-    → let l = c .before .before .before .before .before in parts (sourceFigure (inputOfStanding l) (source l)) ≡ figureMeaning (c .source-figure .result)
+    → let l = c .before .before .before .before .before in parts (sourceFigure (walked l) (source l)) ≡ figureMeaning (c .source-figure .result)
 unfolding noSource
 judged c =
     let s = c .before .before .before .before .before .before .before in
@@ -95,7 +95,7 @@ returns c =
     let l = b .before .before .before .before .before in
     let told = c .before .enum-told .given .1 in
     ap (λ (n : ℕ). Refused n (l .loop .i)) (c .refusal .ensures ∙ ap figureRefusal told)
-    ∙ sym (stops (inputOfStanding l) (l .loop .sums) (l .loop .i) (b .before .before .before .before .loop-test .taken) (source l) (stands (b .before)) _
+    ∙ sym (stops (walked l) (l .loop .sums) (l .loop .i) (b .before .before .before .before .loop-test .taken) (source l) (stands (b .before)) _
     (judged b ∙ ap figureMeaning told))
     ∙ l .loop .inv .1
 
@@ -126,13 +126,13 @@ loop-again c =
     let told = w .4 .given .1 in
     rw (w .7 ∙ w .6 .ensures, w .1 .ensures) (
       omega arith,
-      sym (goes-on (inputOfStanding l) (l .loop .sums) i h (source l) (stands (b .before)) _ (judged b ∙ ap figureMeaning told)) ∙ l .loop .inv .1,
+      sym (goes-on (walked l) (l .loop .sums) i h (source l) (stands (b .before)) _ (judged b ∙ ap figureMeaning told)) ∙ l .loop .inv .1,
       bounded-more i _ (source l .side) (l .loop .sums) (subst FigureWithin told (w .2 .ensures .1)) (l .loop .inv .2),
     ))
     (λ w.
     rw (w .1) (
       omega arith,
-      sym (skips (inputOfStanding l) (l .loop .sums) i h (rw (w .0 .left))) ∙ l .loop .inv .1,
+      sym (skips (walked l) (l .loop .sums) i h (rw (w .0 .left))) ∙ l .loop .inv .1,
       bounded-widen i (i + 1) (l .loop .sums) (omega arith) (l .loop .inv .2),
     ))
     (c .if1 .came)
@@ -141,7 +141,7 @@ returns-2 : tie.Need-returns-2 Inv-loop μ-loop
 returns-2 c =
     let l = c .before in
     let e : l .loop .i ≡ 32 = omega arith in
-    sym (resumed-last (l .loop .sums)) ∙ ap (resumed (l .loop .sums)) (sym (left-none (inputOfStanding l))) ∙ (rw e at (l .loop .inv .1))
+    sym (resumed-last (l .loop .sums)) ∙ ap (resumed (l .loop .sums)) (sym (left-none (walked l))) ∙ (rw e at (l .loop .inv .1))
 
 pub walk-spec : {M : Type 1} → statement M
 walk-spec =
