@@ -87,7 +87,7 @@ reply-length (refusedAt n k) h = simp (joined-more, joined-none) (omega (arith, 
 reply-length (reported r) h = report-length r h
 reply-length damaged h = simp (joined-more, joined-none) (omega arith)
 
-longest-any : (r : Reply) → longest r ≤ 140
+pub longest-any : (r : Reply) → longest r ≤ 140
 longest-any ok = omega arith
 longest-any (refusedWith n) = omega arith
 longest-any (refusedAt n k) = omega arith

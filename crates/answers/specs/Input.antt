@@ -42,9 +42,12 @@ lineReply l (some c) = reply l c
 abbrev pub lineCalls : List ℕ → List (Option Call)
 lineCalls input = map lineCall (lines input)
 
--- The answers to the lines, from a new ledger.
+-- The answers to lines, from a new ledger, and those to the lines of an input.
+abbrev pub linesReplies : List (List ℕ) → List Reply
+linesReplies ls = answers lineStep lineReply newLedger (map lineCall ls)
+
 abbrev pub inputReplies : List ℕ → List Reply
-inputReplies input = answers lineStep lineReply newLedger (lineCalls input)
+inputReplies input = linesReplies (lines input)
 
 unfoldable pub repliesText : List Reply → List ℕ
 repliesText [] = []

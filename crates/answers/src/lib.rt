@@ -8,7 +8,19 @@ ghost use lib.ListN.{length, drop};
 ghost use Rattle.text.specs.Buffer.{putAt};
 ghost use Rattle.answers.specs.Input.{inputLimit, bytesForEach, output, written, bufferAfter};
 ghost use Rattle.answers.specs.Steps.{firstLine};
+use crate::line::Reply;
+use crate::line::entry_reply;
+use crate::line::plant_after;
+use crate::line::put_reply;
+use crate::line::report_reply;
+use crate::line::source_after;
+use forms::Kind;
 use ledger::Ledger;
+use records::GridKept;
+use records::Plant;
+use records::PlantKept;
+use records::Source;
+use records::SourceKept;
 
 // How many bytes were written, or that the buffer might be too short.
 pub enum Written {
@@ -41,7 +53,8 @@ fn line_end(input: &[u8], at: usize) -> usize
     i
 }
 
-// Answers the lines of an input one after the other.
+// Answers the lines of an input one after the other. It keeps the ledger and stores the record that a line
+// leaves, as the program panel does: the ledger is neither handed on nor given back.
 fn answer_lines(input: &[u8], buffer: &mut [u8]) -> usize
     requires { ⌜ length (now input) ≤ inputLimit ⌝ }
     requires { ⌜ bytesForEach * length (now input) ≤ length (now buffer) ⌝ }
@@ -53,10 +66,33 @@ fn answer_lines(input: &[u8], buffer: &mut [u8]) -> usize
     let mut next: usize = 0;
     while at < input.len() {
         let end = line_end(input, at);
-        let answered = line::answer_line(ledger, &input[at..end]);
-        let reply = answered.reply;
-        next = line::put_reply(buffer, next, reply);
-        ledger = answered.ledger;
+        let line = forms::read_line(&input[at..end]);
+        let kind = line.kind;
+        let reply = match kind {
+            Kind::NoForm => Reply::Refused(14),
+            Kind::GridForm => {
+                let held = ledger.grid;
+                let GridKept { kept, answer } = held.entered(line.grid);
+                ledger.grid = kept;
+                entry_reply(answer)
+            }
+            Kind::PlantForm => {
+                let place = (line.number % Plant::NUMBERS) as usize;
+                let held = ledger.plants[place];
+                let PlantKept { kept, answer } = plant_after(held, line);
+                ledger.plants[place] = kept;
+                entry_reply(answer)
+            }
+            Kind::SourceForm => {
+                let place = (line.number % Source::NUMBERS) as usize;
+                let held = ledger.sources[place];
+                let SourceKept { kept, answer } = source_after(held, line);
+                ledger.sources[place] = kept;
+                entry_reply(answer)
+            }
+            Kind::ReportForm => report_reply(ledger.report()),
+        };
+        next = put_reply(buffer, next, reply);
         at = end + 1;
     }
     next

@@ -1,20 +1,18 @@
-// What a line does to the ledger, and the text of its answer (document 01, "The text the program tally
-// reads": "Each line prints ..").
+// What a line leaves in the record that it names, and the text of its answer (document 01, "The text the program
+// tally reads": "Each line prints .."). Whoever keeps the ledger stores the record: `answer_lines` here, and the
+// program panel.
 ghost use mathlib.Core.Path.{_≡_};
 ghost use Rattle.text.specs.Parts.{placed, putParts};
 ghost use Rattle.report.specs.Answers.{answerMeaning, sideMeaning, reportIn, reportMeaning};
 ghost use Rattle.report.specs.Report.{refusedWith, refusedAt};
-ghost use Rattle.ledger.specs.Standing.{report};
-ghost use Rattle.ledger.specs.Operations.{reply};
-ghost use Rattle.forms.specs.Calls.{lineCall};
-ghost use Rattle.forms.specs.Steps.{callIn};
 ghost use Rattle.answers.specs.Answers.{replyMeaning, sideParts, reportParts, replyParts};
-ghost use Rattle.answers.specs.Input.{lineStep, lineReply};
-use forms::Kind;
+ghost use Rattle.answers.specs.Owner.{plantAfter, plantAnswer, sourceAfter, sourceAnswer};
 use forms::Line;
-use ledger::Ledger;
-use ledger::LedgerKept;
 use records::Answer;
+use records::PlantKept;
+use records::PlantRecord;
+use records::SourceKept;
+use records::SourceRecord;
 use report::Report;
 use report::Reported;
 use report::SideReport;
@@ -28,13 +26,29 @@ pub enum Reply {
     Damaged,
 }
 
-// The ledger that a line leaves, with its answer.
-pub struct Answered {
-    pub ledger: Ledger,
-    pub reply: Reply,
+// What a line about a plant leaves in the record under its number, with its answer: an entry, or a drop.
+pub fn plant_after(held: PlantRecord, line: Line) -> PlantKept
+    ensures kept { λ r. ⌜ r .kept ≡ plantAfter line held ⌝ }
+    ensures answer { λ r. ⌜ r .answer ≡ plantAnswer line held ⌝ }
+{
+    if line.drops {
+        return held.dropped(line.number);
+    }
+    held.entered(line.number, line.plant)
 }
 
-fn entry_reply(answer: Answer) -> Reply
+// The same of a source.
+pub fn source_after(held: SourceRecord, line: Line) -> SourceKept
+    ensures kept { λ r. ⌜ r .kept ≡ sourceAfter line held ⌝ }
+    ensures answer { λ r. ⌜ r .answer ≡ sourceAnswer line held ⌝ }
+{
+    if line.drops {
+        return held.dropped(line.number);
+    }
+    held.entered(line.number, line.source)
+}
+
+pub fn entry_reply(answer: Answer) -> Reply
     ensures { λ r. ⌜ replyMeaning r ≡ answerMeaning answer ⌝ }
 {
     match answer {
@@ -43,7 +57,7 @@ fn entry_reply(answer: Answer) -> Reply
     }
 }
 
-fn report_reply(reported: Reported) -> Reply
+pub fn report_reply(reported: Reported) -> Reply
     ensures { λ r. ⌜ replyMeaning r ≡ reportMeaning reported ⌝ }
 {
     match reported {
@@ -52,63 +66,6 @@ fn report_reply(reported: Reported) -> Reply
         Reported::RefusedAt(number, source) => Reply::RefusedAt(number, source),
         Reported::Given(report) => Reply::Given(report),
     }
-}
-
-// The answer to an entry or a drop, which left this ledger.
-fn changed(kept: LedgerKept) -> Answered
-    ensures ledger { λ r. ⌜ r .ledger ≡ kept .ledger ⌝ }
-    ensures reply { λ r. ⌜ replyMeaning (r .reply) ≡ answerMeaning (kept .answer) ⌝ }
-{
-    let ledger = kept.ledger;
-    let answer = kept.answer;
-    let reply = entry_reply(answer);
-    Answered { ledger, reply }
-}
-
-fn reported(ledger: Ledger) -> Answered
-    ensures ledger { λ r. ⌜ r .ledger ≡ ledger ⌝ }
-    ensures reply { λ r. ⌜ replyMeaning (r .reply) ≡ reply ledger report ⌝ }
-{
-    let reply = report_reply(ledger.report());
-    Answered { ledger, reply }
-}
-
-fn refused_14(ledger: Ledger) -> Answered
-    ensures ledger { λ r. ⌜ r .ledger ≡ ledger ⌝ }
-    ensures reply { λ r. ⌜ replyMeaning (r .reply) ≡ refusedWith 14 ⌝ }
-{
-    Answered {
-        ledger,
-        reply: Reply::Refused(14),
-    }
-}
-
-// Makes the call of a line that was read.
-fn perform(ledger: Ledger, line: Line) -> Answered
-    ensures ledger { λ r. ⌜ r .ledger ≡ lineStep ledger (callIn line) ⌝ }
-    ensures reply { λ r. ⌜ replyMeaning (r .reply) ≡ lineReply ledger (callIn line) ⌝ }
-{
-    let kind = line.kind;
-    match kind {
-        Kind::NoForm => refused_14(ledger),
-        Kind::GridForm => changed(ledger.enter_grid(line.grid)),
-        Kind::PlantForm => changed(ledger.enter_plant(line.number, line.plant)),
-        Kind::SourceForm => changed(ledger.enter_source(line.number, line.source)),
-        Kind::DropPlantForm => changed(ledger.drop_plant(line.number)),
-        Kind::DropSourceForm => changed(ledger.drop_source(line.number)),
-        Kind::ReportForm => reported(ledger),
-    }
-}
-
-// Answers a line, given without its LF.
-pub fn answer_line(ledger: Ledger, line: &[u8]) -> Answered
-    ensures ledger { λ r. ⌜ r .ledger ≡ lineStep ledger (lineCall (now (line .entry))) ⌝ }
-    ensures reply { λ r. ⌜ replyMeaning (r .reply) ≡ lineReply ledger (lineCall (now (line .entry))) ⌝ }
-{
-    if line.len() > Line::LIMIT {
-        return refused_14(ledger);
-    }
-    perform(ledger, forms::read_line(line))
 }
 
 fn put_side(output: &mut [u8], at: usize, side: &[u8], report: SideReport) -> usize

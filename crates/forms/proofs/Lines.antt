@@ -9,6 +9,7 @@ use native.Mathlib.Omega.{arith}
 use lib.Dec.{eqb}
 use lib.ListN.{length, drop, getD, length-drop, drop-of-length-le}
 use lib.Seq.{getD-drop}
+use borrow.Author.Tests.{le-leb, lt-leb}
 use Rattle.text.specs.Template.{Read, onRead, mapRead}
 use Rattle.metering.specs.declared.Meter.{Meter}
 use Rattle.emissions.specs.declared.Side.{Side}
@@ -17,7 +18,8 @@ use Rattle.emissions.specs.declared.Loss.{Loss}
 use Rattle.ledger.specs.Standing.{Call, enterGrid, enterPlant, enterSource}
 use Rattle.ledger.specs.Standing as call
 use Rattle.forms.specs.Form.{Form}
-use Rattle.forms.specs.Reading.{orElse, openingIn, isClosing, formIn}
+use Rattle.forms.specs.Form.{lineLimit}
+use Rattle.forms.specs.Reading.{orElse, openingIn, isClosing, formIn, lineForm}
 use Rattle.forms.specs.Calls.{fittedCall, plainLine, lineOf}
 use Rattle.records.specs.Judging.{isThere}
 use Rattle.forms.specs.Steps.{found, callIn, withRest, openingMeaning}
@@ -143,6 +145,15 @@ call-in-line (some (enterSource n e)) next = refl
 call-in-line (some (call.dropPlant n)) next = refl
 call-in-line (some (call.dropSource n)) next = refl
 call-in-line (some call.report) next = refl
+
+-- A line above 256 bytes is no form, and any other is what it reads.
+pub long-line : (s : List ℕ) → lineLimit < length s → lineForm s ≡ none
+unfolding lineForm
+long-line s h = rw (lt-leb (length s) lineLimit h)
+
+pub short-line : (s : List ℕ) → length s ≤ lineLimit → lineForm s ≡ formIn s
+unfolding lineForm
+short-line s h = rw (le-leb (length s) lineLimit h)
 
 module _ (s : List ℕ) where
   -- A line that was opened and closes holds the call of its form.

@@ -2,7 +2,7 @@
 -- arguments"). Its numbers are those written, however large; `fitted-replies` shows that an entry or a drop judges the largest number of a
 -- field as it judges any larger one.
 use Prim.Native.Nat.{ℕ}
-use mathlib.Core.Bool.{cond}
+use mathlib.Core.Bool.{Bool, true, false, cond}
 use mathlib.Core.List.{List, _++_, map}
 use mathlib.Core.Option.{Option, none, some, Option·map}
 use lib.Dec.{leb}
@@ -27,7 +27,7 @@ use Rattle.records.specs.declared.SourceEntry.{SourceEntry}
 use Rattle.forms.specs.Form.{MeterForm, whole, single, Form, grid, plant, source, dropSource, dropPlant, report}
 use Rattle.forms.specs.Reading.{lineForm}
 use Rattle.forms.specs.declared.Kind.{Kind}
-use Rattle.forms.specs.declared.Kind.the-variants.{NoForm, GridForm, PlantForm, SourceForm, DropPlantForm, DropSourceForm, ReportForm}
+use Rattle.forms.specs.declared.Kind.the-variants.{NoForm, GridForm, PlantForm, SourceForm, ReportForm}
 use Rattle.forms.specs.declared.Line.{Line}
 
 -- A register is the binary32 value of its 32 bits ("an IEEE 754 binary32 register in kWh"); every pattern that is not a number is one value.
@@ -111,15 +111,15 @@ emptyPlant = record { site = 0; generation = 0; lines = replicate 4 noLine; coun
 abbrev pub emptySource : SourceEntry
 emptySource = record { side = Project; supply = Combined; loss = Nothing; meters = replicate 4 noMeter; count = 0 }
 
-unfoldable pub plainLine : Kind → ℕ → ℕ → Line
-plainLine kind number next = record { kind = kind; number = number; grid = emptyGrid; plant = emptyPlant; source = emptySource; next = next }
+unfoldable pub plainLine : Kind → Bool → ℕ → ℕ → Line
+plainLine kind drops number next = record { kind = kind; drops = drops; number = number; grid = emptyGrid; plant = emptyPlant; source = emptySource; next = next }
 
 -- The line that holds a call, with the place where its form ends; both are absent where there is no call. A call without a number has 0.
 unfoldable pub lineOf : Option Call → ℕ → Line
-lineOf none next = plainLine NoForm 0 0
-lineOf (some (enterGrid g)) next = record { kind = GridForm; number = 0; grid = g; plant = emptyPlant; source = emptySource; next = next }
-lineOf (some (enterPlant n p)) next = record { kind = PlantForm; number = n; grid = emptyGrid; plant = p; source = emptySource; next = next }
-lineOf (some (enterSource n e)) next = record { kind = SourceForm; number = n; grid = emptyGrid; plant = emptyPlant; source = e; next = next }
-lineOf (some (call.dropPlant n)) next = plainLine DropPlantForm n next
-lineOf (some (call.dropSource n)) next = plainLine DropSourceForm n next
-lineOf (some call.report) next = plainLine ReportForm 0 next
+lineOf none next = plainLine NoForm false 0 0
+lineOf (some (enterGrid g)) next = record { kind = GridForm; drops = false; number = 0; grid = g; plant = emptyPlant; source = emptySource; next = next }
+lineOf (some (enterPlant n p)) next = record { kind = PlantForm; drops = false; number = n; grid = emptyGrid; plant = p; source = emptySource; next = next }
+lineOf (some (enterSource n e)) next = record { kind = SourceForm; drops = false; number = n; grid = emptyGrid; plant = emptyPlant; source = e; next = next }
+lineOf (some (call.dropPlant n)) next = plainLine PlantForm true n next
+lineOf (some (call.dropSource n)) next = plainLine SourceForm true n next
+lineOf (some call.report) next = plainLine ReportForm false 0 next

@@ -27,7 +27,7 @@ use Rattle.forms.specs.declared.part.MeterRead.the-variants as meter
 use Rattle.forms.specs.declared.part.FuelRead.{FuelRead}
 use Rattle.forms.specs.declared.part.FuelRead.the-variants as fuel
 use Rattle.forms.specs.declared.Kind.{Kind}
-use Rattle.forms.specs.declared.Kind.the-variants.{NoForm, GridForm, PlantForm, SourceForm, DropPlantForm, DropSourceForm, ReportForm}
+use Rattle.forms.specs.declared.Kind.the-variants.{NoForm, GridForm, PlantForm, SourceForm, ReportForm}
 use Rattle.forms.specs.declared.Line.{Line}
 
 -- ---- what was read of the text s: the part, and what is left after its place
@@ -69,10 +69,8 @@ keptAt count parts part = cond (ltb count 4) (set parts count part) parts
 abbrev pub callBy : Kind → Line → Option Call
 callBy NoForm l = none
 callBy GridForm l = some (enterGrid (l .grid))
-callBy PlantForm l = some (enterPlant (l .number) (l .plant))
-callBy SourceForm l = some (enterSource (l .number) (l .source))
-callBy DropPlantForm l = some (call.dropPlant (l .number))
-callBy DropSourceForm l = some (call.dropSource (l .number))
+callBy PlantForm l = some (cond (l .drops) (call.dropPlant (l .number)) (enterPlant (l .number) (l .plant)))
+callBy SourceForm l = some (cond (l .drops) (call.dropSource (l .number)) (enterSource (l .number) (l .source)))
 callBy ReportForm l = some call.report
 
 abbrev pub callIn : Line → Option Call

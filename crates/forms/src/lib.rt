@@ -16,7 +16,7 @@ ghost use Rattle.forms.specs.Reading.{
   others,
   openingIn,
   isClosing,
-  formIn,
+  lineForm,
 };
 ghost use Rattle.forms.specs.Calls.{fittedCall, plainLine, lineOf};
 ghost use Rattle.records.specs.Judging.{isThere};
@@ -44,21 +44,20 @@ use records::Plant;
 use records::SourceEntry;
 use text::Match;
 
-// The kinds of lines.
+// The kinds of lines: what a line enters, drops or asks for.
 pub enum Kind {
     NoForm,
     GridForm,
     PlantForm,
     SourceForm,
-    DropPlantForm,
-    DropSourceForm,
     ReportForm,
 }
 
-// A line as read: its kind says which of its parts count, and the others are empty. `next` is the place
-// after what was read.
+// A line as read: its kind says which of its parts count, and the others are empty. `drops` says that the plant
+// or source under its number is taken away and not entered. `next` is the place after what was read.
 pub struct Line {
     pub kind: Kind,
+    pub drops: bool,
     pub number: u8,
     pub grid: GridEntry,
     pub plant: Plant,
@@ -72,13 +71,14 @@ impl Line {
 }
 
 // A line of a kind whose other parts are empty.
-fn plain_line(kind: Kind, number: u8, next: usize) -> Line
-    ensures { λ r. ⌜ r ≡ plainLine kind number next ⌝ }
+fn plain_line(kind: Kind, drops: bool, number: u8, next: usize) -> Line
+    ensures { λ r. ⌜ r ≡ plainLine kind drops number next ⌝ }
 {
     let fuel = FuelLine::empty();
     let meter = Meter::empty();
     Line {
         kind,
+        drops,
         number,
         grid: GridEntry {
             margin: 0,
@@ -104,7 +104,7 @@ fn plain_line(kind: Kind, number: u8, next: usize) -> Line
 fn no_form() -> Line
     ensures { λ r. ⌜ r ≡ lineOf none 0 ⌝ }
 {
-    plain_line(Kind::NoForm, 0, 0)
+    plain_line(Kind::NoForm, false, 0, 0)
 }
 
 fn read_grid(line: &[u8]) -> Line
@@ -117,7 +117,7 @@ fn read_grid(line: &[u8]) -> Line
     let KindRead::Found(kind, next) = read_kind(line, at) else {
         return no_form();
     };
-    let empty = plain_line(Kind::GridForm, 0, next);
+    let empty = plain_line(Kind::GridForm, false, 0, next);
     let plant = empty.plant;
     let source = empty.source;
     let grid = GridEntry {
@@ -126,6 +126,7 @@ fn read_grid(line: &[u8]) -> Line
     };
     Line {
         kind: Kind::GridForm,
+        drops: false,
         number: 0,
         grid,
         plant,
@@ -144,7 +145,7 @@ fn read_plant(line: &[u8]) -> Line
     let fuels = read_fuels(line, at);
     let next = fuels.next;
     let lines = fuels.lines;
-    let empty = plain_line(Kind::PlantForm, 0, next);
+    let empty = plain_line(Kind::PlantForm, false, 0, next);
     let grid = empty.grid;
     let source = empty.source;
     let plant = Plant {
@@ -155,6 +156,7 @@ fn read_plant(line: &[u8]) -> Line
     };
     Line {
         kind: Kind::PlantForm,
+        drops: false,
         number: byte_field(numbers.first),
         grid,
         plant,
@@ -183,7 +185,7 @@ fn read_source(line: &[u8]) -> Line
     let next = meters.next;
     let count = byte_field(meters.count as u64);
     let meters = meters.meters;
-    let empty = plain_line(Kind::SourceForm, 0, next);
+    let empty = plain_line(Kind::SourceForm, false, 0, next);
     let grid = empty.grid;
     let plant = empty.plant;
     let source = SourceEntry {
@@ -195,6 +197,7 @@ fn read_source(line: &[u8]) -> Line
     };
     Line {
         kind: Kind::SourceForm,
+        drops: false,
         number: byte_field(numbers.first),
         grid,
         plant,
@@ -209,13 +212,13 @@ fn read_other(line: &[u8]) -> Line
     ensures parts { λ r. ⌜ r ≡ lineOf (callIn r) (r .next) ⌝ }
 {
     if let Match::Match(numbers, next) = text::read_template(line, 0, b"(drop source #") {
-        return plain_line(Kind::DropSourceForm, byte_field(numbers.first), next);
+        return plain_line(Kind::SourceForm, true, byte_field(numbers.first), next);
     }
     if let Match::Match(numbers, next) = text::read_template(line, 0, b"(drop plant #") {
-        return plain_line(Kind::DropPlantForm, byte_field(numbers.first), next);
+        return plain_line(Kind::PlantForm, true, byte_field(numbers.first), next);
     }
     if let Match::Match(_, next) = text::read_template(line, 0, b"(report") {
-        return plain_line(Kind::ReportForm, 0, next);
+        return plain_line(Kind::ReportForm, false, 0, next);
     }
     no_form()
 }
@@ -230,8 +233,6 @@ fn is_form(line: Line) -> bool
         Kind::GridForm => true,
         Kind::PlantForm => true,
         Kind::SourceForm => true,
-        Kind::DropPlantForm => true,
-        Kind::DropSourceForm => true,
         Kind::ReportForm => true,
     }
 }
@@ -269,10 +270,14 @@ fn closes(line: &[u8], at: usize) -> bool
     line[at] == b')'
 }
 
-// Reads a line: the call that it makes, where it is a form. A form ends at its last byte, the bracket.
+// Reads a line, given without its LF: the call that it makes, where it is a form. A form ends at its last byte,
+// the bracket, and a line above 256 bytes is none.
 pub fn read_line(line: &[u8]) -> Line
-    ensures { λ r. ⌜ r ≡ lineOf (Option·map fittedCall (formIn (now (line .entry)))) (length (now (line .entry)) - 1) ⌝ }
+    ensures { λ r. ⌜ r ≡ lineOf (Option·map fittedCall (lineForm (now (line .entry)))) (length (now (line .entry)) - 1) ⌝ }
 {
+    if line.len() > Line::LIMIT {
+        return no_form();
+    }
     let opening = read_opening(line);
     let next = opening.next;
     if closes(line, next) {

@@ -1,0 +1,39 @@
+-- Lines typed one after the other at a box, each answered before the next is read. A line stands here without its LF (10).
+use Prim.Native.Nat.{ℕ}
+use mathlib.Core.Path.{_≡_}
+use mathlib.Core.List.{List, [], _∷_, _++_, map}
+use Rattle.rounding.specs.Calls.{afterCalls}
+use Rattle.ledger.specs.Operations.{newLedger}
+use Rattle.ledger.specs.declared.Ledger.{Ledger}
+use Rattle.forms.specs.Calls.{lineCall}
+use Rattle.answers.specs.Answers.{replyText}
+use Rattle.answers.specs.Input.{lineStep, lineReply}
+
+-- Bytes of which none is an LF, and lists of such lines.
+unfoldable pub NoLf : List ℕ → Type 0
+NoLf [] = Unit {0}
+NoLf (b ∷ t) = (b ≡ 10 → ⊥) × NoLf t
+
+unfoldable pub Lines : List (List ℕ) → Type 0
+Lines [] = Unit {0}
+Lines (line ∷ ls) = NoLf line × Lines ls
+
+-- The text that they make, each with its LF.
+unfoldable pub typedText : List (List ℕ) → List ℕ
+typedText [] = []
+typedText (line ∷ ls) = line ++ (10 ∷ typedText ls)
+
+-- The ledger that they leave, from a new one.
+unfoldable pub typedLedger : List (List ℕ) → Ledger
+typedLedger ls = afterCalls lineStep newLedger (map lineCall ls)
+
+-- The text of the answer to a line, after the lines before it.
+abbrev pub typedAnswer : List (List ℕ) → List ℕ → List ℕ
+typedAnswer before line = replyText (lineReply (typedLedger before) (lineCall line))
+
+-- Bytes that are the answer to a line typed after others.
+pub record TypedAnswer (bytes : List ℕ) : Type 0 where
+  pub before : List (List ℕ)
+  pub line : List ℕ
+  pub lines : Lines (line ∷ before)
+  pub text : bytes ≡ typedAnswer before line
