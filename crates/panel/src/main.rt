@@ -5,7 +5,7 @@ ghost use Prim.Native.Nat.{_≤_, _<_};
 ghost use lib.ListN.{length, take};
 ghost use Rattle.forms.specs.Form.{lineLimit};
 ghost use Rattle.answers.specs.Typed.{TypedAnswer};
-ghost use Rattle.panel.specs.Kept.{Kept};
+ghost use Rattle.panel.specs.Steps.{Kept};
 use answers::line::Reply;
 use answers::line::entry_reply;
 use answers::line::plant_after;

@@ -15,7 +15,7 @@ use Rattle.answers.specs.Typed.{NoLf, TypedAnswer}
 use Rattle.answers.proofs.Forms.{read-steps, read-replies}
 use Rattle.answers.proofs.Owner.{Answered, no-form-answered, grid-answered, plant-answered, source-answered, report-answered}
 use Rattle.answers.proofs.Typed.{answer-length}
-use Rattle.panel.specs.Kept.{Kept}
+use Rattle.panel.specs.Steps.{Kept}
 use Rattle.panel.proofs.Turns.{Left, left-new, left-next, typed-answer, answer-put}
 use Rattle.panel.proofs.answer_lines.Statement.{statement}
 use Rattle.panel.proofs.answer_lines.Tie as tie
