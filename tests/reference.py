@@ -1,4 +1,4 @@
-"""A second implementation of document 01, to compare the program tally with.
+"""A second implementation of document 01, to compare the programs tally and panel with.
 
 Written from document 01 alone, with an exact fraction wherever the paper has
 an exact value. Comments in quotation marks are the paper's sentences; a bare
@@ -683,18 +683,25 @@ def lines_of(data: bytes) -> list[bytes]:
     return data.removesuffix(b'\n').split(b'\n')
 
 
-def tally(data: bytes, on_report=None) -> bytes:
-    """The whole output. `on_report(ledger, report)` sees each report given."""
-    if len(data) > INPUT_LIMIT:
-        return b'refused 14\n'
+def answers(data: bytes, on_report=None) -> list[bytes]:
+    """The answer to each line, however many bytes there are: what the program panel
+    writes. `on_report(ledger, report)` sees each report given."""
     ledger = Ledger()
     output = []
     for line in lines_of(data):
         answer = perform(ledger, line)
         if on_report and isinstance(answer, Report):
             on_report(ledger, answer)
-        output.append(answer_text(answer))
-    return ''.join(output).encode()
+        output.append(answer_text(answer).encode())
+    return output
+
+
+def tally(data: bytes, on_report=None) -> bytes:
+    """The whole output of the program tally."""
+    # "Input above 65,536 bytes prints only `refused 14`."
+    if len(data) > INPUT_LIMIT:
+        return b'refused 14\n'
+    return b''.join(answers(data, on_report))
 
 
 # 9. The program

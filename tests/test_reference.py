@@ -380,6 +380,26 @@ def text(checks: Checks):
                  (len(at_limit), len(b'(drop plant 0)\n\n' * 4096)), (256, 65_536))
 
 
+def lines_answered(checks: Checks):
+    """Each line has its answer, whatever the size of the input."""
+    ok, no_form, no_plant = b'ok\n', b'refused 14\n', b'refused 7\n'
+    report = EMPTY_REPORT.replace('/', '\n').encode() + b'\n'
+    empty_lines = b'\n' * 65_536
+    rows = [
+        ('an empty input', b'', []),
+        ('the last line without its LF', b'(report)\n\n(drop plant 0)', [report, no_form, no_plant]),
+        ('an input of 65,536 bytes', empty_lines, [no_form] * 65_536),
+        ('an input of 65,537 bytes', empty_lines + b'(', [no_form] * 65_537),
+        ('what stands after 65,536 bytes',
+         b'(plant 0 0 0)\n' + empty_lines + b'(drop plant 0)\n(drop plant 0)\n',
+         [ok, *[no_form] * 65_536, ok, no_plant]),
+        ('a line of 100,000 bytes', b'(plant 0 0 0)\n' + b'(report)' * 12_500 + b'\n(report)\n',
+         [ok, no_form, report]),
+    ]
+    for name, data, expected in rows:
+        checks.equal(f'lines of {name}', reference.answers(data), expected)
+
+
 def exact_values(checks: Checks):
     """The listing by pencil: e × 1.2 × 812,400 and e × 3,186,300,000 ÷ 7,000."""
     (ledger, given), = reports_of(LISTING)
@@ -455,7 +475,8 @@ def main() -> int:
     for part in (bench_table, registers, grid_and_plant_entries, source_entries,
                  drops_and_replacement, meters, grid_defaults, default_losses,
                  captive_supplies, rounded_lines, report_refusals, largest_side, text,
-                 exact_values, exact_options, exact_energy_below_zero, demand_3_can_fail):
+                 lines_answered, exact_values, exact_options, exact_energy_below_zero,
+                 demand_3_can_fail):
         part(checks)
     print(f'{checks.passed} passed, {checks.failed} failed')
     return 1 if checks.failed else 0
