@@ -1,5 +1,6 @@
 #!/bin/sh
-# Runs ./tally as a user does: what it prints and its exit status, also where input or output fails.
+# Runs ./tally and ./panel as a user does: what they print and their exit status, also where input or output
+# fails or the program cannot be built.
 # Prints each failure and, last, 'N passed, M failed'.
 set -u
 cd "$(dirname "$0")/.." || exit 1
@@ -31,15 +32,44 @@ printf '(report)\r\n(drop source 0)\r\n' >"$room/crlf"
 yes '' | head -c 65536 >"$room/largest"
 yes '' | head -c 65537 >"$room/too_large"
 sed 's/^/refused 14/' "$room/largest" >"$room/refused_each"
+sed 's/^/refused 14/' "$room/too_large" >"$room/refused_more"
 yes '(report)' | head -n 7000 >"$room/reports"
 echo 'project 0 0 0' >"$room/first_line"
-# A program beside a copy of ./tally that ends badly.
-mkdir -p "$room/copy/crates" "$room/copy/target/bin" "$room/copy/target/stamp"
-cp tally "$room/copy/tally" && : >"$room/copy/crates.txt" && touch "$room/copy/target/stamp/tally"
-printf '#!/bin/sh\ncat; exit 3\n' >"$room/copy/target/bin/tally" && chmod +x "$room/copy/target/bin/tally"
+# Copies of the wrappers: beside programs that end badly, and without programs, beside an rt that fails and
+# one that leaves a program which prints its input.
+for copy in bad unbuilt built; do
+    mkdir -p "$room/$copy/crates" && cp tally panel wrapper.sh "$room/$copy" && : >"$room/$copy/crates.txt"
+done
+mkdir -p "$room/bad/target/bin" "$room/bad/target/stamp"
+for name in tally panel; do
+    printf '#!/bin/sh\ncat; exit 3\n' >"$room/bad/target/bin/$name" && chmod +x "$room/bad/target/bin/$name"
+    touch "$room/bad/target/stamp/$name"
+done
+mkdir "$room/fails" "$room/makes"
+printf '#!/bin/sh\nexit 1\n' >"$room/fails/rt"
+cat >"$room/makes/rt" <<'END'
+#!/bin/sh
+mkdir -p target/bin target/stamp
+printf '#!/bin/sh\ncat\n' >"target/bin/$2" && chmod +x "target/bin/$2" && : >"target/stamp/$2"
+END
+chmod +x "$room/fails/rt" "$room/makes/rt"
+# Writes a line, and the next once the first is answered. At its end the program's input ends too.
+cat >"$room/line_by_line" <<'END'
+mkfifo "$room/lines" "$room/answers" || exit 1
+./panel <"$room/lines" >"$room/answers" &
+exec 3>"$room/lines" 4<"$room/answers"
+echo '(drop plant 0)' >&3
+timeout 10 head -n 1 <&4 || exit 1
+echo '(report)' >&3
+timeout 10 head -n 4 <&4 || exit 1
+exec 3>&-
+wait $!
+END
+printf 'refused 7\nproject 0 0 0\nleakage 0 0 0\nbaseline 0 0 0\nreduction 0\n' >"$room/answered"
 
 # The first run may still have to look whether the program is built.
 ./tally <$nothing >$nothing 2>&1
+./panel <$nothing >$nothing 2>&1
 check 'the example' 0 examples/site.out '' './tally <examples/site.txt'
 check 'the example through a pipe' 0 examples/site.out '' 'cat examples/site.txt | ./tally | cat'
 check 'an empty input' 0 $nothing '' './tally </dev/null'
@@ -55,9 +85,29 @@ check 'an input open for writing only' 1 $nothing 'could not be read' './tally 0
 check 'a full device' 1 $nothing 'could not be written' './tally <examples/site.txt >/dev/full'
 check 'a closed output' 1 $nothing 'standard output is closed' './tally <examples/site.txt >&-'
 check 'no place for the input' 1 $nothing 'no place' 'TMPDIR=$room/none ./tally <examples/site.txt'
-check 'a program that ends badly' 1 examples/site.txt 'ended with status 3' '"$room/copy/tally" <examples/site.txt'
+check 'a program that ends badly' 1 examples/site.txt 'ended with status 3' '"$room/bad/tally" <examples/site.txt'
+check 'a build that fails' 1 $nothing 'not built' 'PATH=$room/fails:$PATH "$room/unbuilt/tally" <examples/site.txt'
+check 'a build before the run' 0 examples/site.txt 'the first build' \
+    'PATH=$room/makes:$PATH "$room/built/tally" <examples/site.txt'
 check 'a reader that ends early' 0 "$room/first_line" '' \
     '{ ./tally <"$room/reports" 2>/dev/null; echo $? >"$room/status"; } | head -n 1; [ "$(cat "$room/status")" -ne 0 ]'
+
+check 'panel, the example' 0 examples/site.out '' './panel <examples/site.txt'
+check 'panel, the example through a pipe' 0 examples/site.out '' 'cat examples/site.txt | ./panel | cat'
+check 'panel, an empty input' 0 $nothing '' './panel </dev/null'
+check 'panel, lines that end in CR LF' 0 "$room/refused_twice" '' './panel <"$room/crlf"'
+check 'panel, an input above 65,536 bytes' 0 "$room/refused_more" '' './panel <"$room/too_large"'
+check 'panel, each line answered at once' 0 "$room/answered" '' 'sh "$room/line_by_line"'
+check 'panel, an argument' 2 $nothing 'usage: ./panel' './panel examples/site.txt'
+check 'panel, an empty argument' 2 $nothing 'usage: ./panel' './panel "" <examples/site.txt'
+check 'panel, a closed input' 1 $nothing 'standard input is closed' './panel <&-'
+check 'panel, a closed output' 1 $nothing 'standard output is closed' './panel <examples/site.txt >&-'
+check 'panel, a program that ends badly' 1 examples/site.txt 'ended with status 3' \
+    '"$room/bad/panel" <examples/site.txt'
+check 'panel, a build that fails' 1 $nothing 'not built' \
+    'PATH=$room/fails:$PATH "$room/unbuilt/panel" <examples/site.txt'
+check 'panel, a build before the run' 0 examples/site.txt 'the first build' \
+    'PATH=$room/makes:$PATH "$room/built/panel" <examples/site.txt'
 
 echo "$passed passed, $failed failed"
 [ "$failed" -eq 0 ]
