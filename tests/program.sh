@@ -32,7 +32,8 @@ printf '(report)\r\n(drop source 0)\r\n' >"$room/crlf"
 yes '' | head -c 65536 >"$room/largest"
 yes '' | head -c 65537 >"$room/too_large"
 sed 's/^/refused 14/' "$room/largest" >"$room/refused_each"
-sed 's/^/refused 14/' "$room/too_large" >"$room/refused_more"
+cat "$room/too_large" "$room/too_large" >"$room/longer"
+sed 's/^/refused 14/' "$room/longer" >"$room/refused_longer"
 yes '(report)' | head -n 7000 >"$room/reports"
 echo 'project 0 0 0' >"$room/first_line"
 # Copies of the wrappers: beside programs that end badly, and without programs, beside an rt that fails and
@@ -96,7 +97,7 @@ check 'panel, the example' 0 examples/site.out '' './panel <examples/site.txt'
 check 'panel, the example through a pipe' 0 examples/site.out '' 'cat examples/site.txt | ./panel | cat'
 check 'panel, an empty input' 0 $nothing '' './panel </dev/null'
 check 'panel, lines that end in CR LF' 0 "$room/refused_twice" '' './panel <"$room/crlf"'
-check 'panel, an input above 65,536 bytes' 0 "$room/refused_more" '' './panel <"$room/too_large"'
+check 'panel, an input of 131,074 bytes' 0 "$room/refused_longer" '' './panel <"$room/longer"'
 check 'panel, each line answered at once' 0 "$room/answered" '' 'sh "$room/line_by_line"'
 check 'panel, an argument' 2 $nothing 'usage: ./panel' './panel examples/site.txt'
 check 'panel, an empty argument' 2 $nothing 'usage: ./panel' './panel "" <examples/site.txt'
