@@ -5,6 +5,7 @@
 PATH="$PATH:/opt/rattle/bin"
 program=$root/target/bin/$name
 stamp=$root/target/stamp/$name
+broken_pipe=141 # the status of a program whose reader ended early
 
 fail() {
     echo "$name: $1" >&2

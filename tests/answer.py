@@ -133,6 +133,7 @@ STEPS = {
 }
 # demand-3 states the limits of the last four; the others are stated by their own laws.
 BY_OTHER_LAWS = ('reading', 'energy', 'losses', 'line', 'factor')
+AT_THE_BOX = 'lines-demand-3'  # demand 3 for every list of lines
 
 
 def quoted(laws) -> str:
@@ -411,7 +412,8 @@ def closing() -> str:
         source, which is how far its grams are off, is below its limit and below {shown(SOURCE_KG)}
         kg; and tonnes and reduction are off by less than their limits. Of readings, E, U, fuel
         lines and F it does not say so. That these lean to the safe side, by less than their limits,
-        is what the other laws say, of every accepted entry: {others}.''')
+        is what the other laws say, of every accepted entry: {others}. At the box, where each line is
+        answered as it is typed, the same holds of every list of lines: `{AT_THE_BOX}`.''')
 
 
 def page() -> str:
@@ -444,7 +446,7 @@ def laws_missing() -> list[str]:
 
 
 def laws_named() -> list[str]:
-    return ['demand-3', *(law for step in STEPS.values() for law in step.laws)]
+    return ['demand-3', AT_THE_BOX, *(law for step in STEPS.values() for law in step.laws)]
 
 
 def check() -> int:

@@ -109,6 +109,8 @@ check 'panel, a build that fails' 1 $nothing 'not built' \
     'PATH=$room/fails:$PATH "$room/unbuilt/panel" <examples/site.txt'
 check 'panel, a build before the run' 0 examples/site.txt 'the first build' \
     'PATH=$room/makes:$PATH "$room/built/panel" <examples/site.txt'
+check 'panel, a reader that ends early' 0 "$room/first_line" '' \
+    '{ ./panel <"$room/reports"; echo $? >"$room/status"; } | head -n 1; [ "$(cat "$room/status")" -eq 141 ]'
 
 echo "$passed passed, $failed failed"
 [ "$failed" -eq 0 ]
