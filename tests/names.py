@@ -1,10 +1,10 @@
 """Looks up each name that the documents cite: what they say is proved or refused has to exist.
 
-    names.py    README.md and docs/*.md
+    names.py    README.md, docs/*.md and box/README.md
 
 A name is a word in `code` quotes. What looks like a path is a file or a folder, a must-fail edit
 (CRATE/LABEL) or a file of definitions or laws (CRATE/specs/FILE); any other name has to stand in the code,
-the definitions or the laws, comments left out, or to be an edit's. Words of the text form, commands and
+the definitions, the laws or the firmware and its test, comments left out, or to be an edit's. Words of the text form, commands and
 formulas are passed over: they are one letter or have a space, a bracket or another sign that no name has.
 
 The tables of docs/PROVED.md name edits with marks: (t) for one of tests/wrong, (d) for one of a definition,
@@ -19,14 +19,18 @@ import sys
 from pathlib import Path
 
 ROOT = Path(__file__).resolve().parent.parent
-DOCUMENTS = [ROOT / 'README.md', *sorted((ROOT / 'docs').glob('*.md'))]
+DOCUMENTS = [ROOT / 'README.md', *sorted((ROOT / 'docs').glob('*.md')), ROOT / 'box/README.md']
 CODED = re.compile(r'`([^`\n]+)`')
 NAME = re.compile(r"[A-Za-z_][\w'ᵣ·-]+(?:(?:::|\.|/)[A-Za-z_*][\w'*-]*)*(?:\.\.)?")
 MARKED = re.compile(r'`((?:\w+/)?[a-z_0-9]+)`((?: \([tdc]\))*)')
 
 # Words of the text form, of formulas and of the toolchain, which nothing declares.
 WORDS = {'ok', 'refused', 'damaged', 'project', 'leakage', 'baseline', 'thermal', 'hydro', 'rt', 'io', 'libc', 'extern',
-         'requires', 'ensures', 'usize', 'code', 'python3', 'valgrind'}
+         'requires', 'ensures', 'usize', 'isize', 'code', 'python3', 'valgrind', 'qemu-system-arm',
+         'gcc-arm-none-eabi'}
+
+# What begins a comment, by the ending of a file.
+COMMENTS = {'.rt': '//', '.antt': '--', '.c': '//', '.py': '#'}
 
 
 def edits() -> dict[str, Path]:
@@ -37,19 +41,19 @@ def edits() -> dict[str, Path]:
 
 
 def words() -> set[str]:
-    """Each word that stands in the code, the definitions or the laws, comments left out."""
+    """Each word that stands in the code, the definitions, the laws or the firmware, comments left out."""
     found = {path.name for path in (ROOT / 'crates').iterdir()}
-    for path in (ROOT / 'crates').rglob('*'):
-        if path.suffix not in ('.rt', '.antt'):
+    for path in [*(ROOT / 'crates').rglob('*'), *(ROOT / 'box').iterdir()]:
+        comment = COMMENTS.get(path.suffix)
+        if comment is None:
             continue
-        comment = '//' if path.suffix == '.rt' else '--'
         for line in path.read_text(encoding='utf-8').split('\n'):
             found |= set(re.findall(r"[A-Za-z_][\w'ᵣ·-]*", line.split(comment)[0]))
     return found
 
 
 def stands(name: str, known: set[str], labels: set[str]) -> bool:
-    places = (ROOT / name, ROOT / 'crates' / name, ROOT / 'crates' / f'{name}.antt')
+    places = (ROOT / name, ROOT / 'box' / name, ROOT / 'crates' / name, ROOT / 'crates' / f'{name}.antt')
     if any(place.exists() for place in places) or name in labels:
         return True
     if name.endswith('..'):
