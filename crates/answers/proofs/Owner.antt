@@ -10,9 +10,8 @@ use Rattle.records.specs.declared.Answer.{Answer}
 use Rattle.records.specs.declared.GridRecord.{GridRecord}
 use Rattle.records.specs.declared.PlantRecord.{PlantRecord}
 use Rattle.records.specs.declared.SourceRecord.{SourceRecord}
-use Rattle.report.specs.Report.{Reply}
+use Rattle.report.specs.Report.{checkedReportOf, inputOfRecords}
 use Rattle.report.specs.Answers.{answerMeaning}
-use Rattle.ledger.specs.Standing as call
 use Rattle.ledger.specs.Operations.{withGrid, withPlant, withSource, step, reply}
 use Rattle.ledger.specs.declared.Ledger.{Ledger}
 use Rattle.ledger.proofs.Stores.{enter-grid-stores, enter-grid-answers}
@@ -86,6 +85,7 @@ module _ (l : Ledger) (ln : Line) where
         by-kind SourceForm e (ap (withSource l (ln .number % 32)) s ∙ source-stores (ln .drops) refl)
         (q ∙ ap answerMeaning t ∙ source-replies (ln .drops) refl)
 
-  pub report-answered : ln .kind ≡ ReportForm → (r : line.Reply) → replyMeaning r ≡ reply l call.report → Answered l ln l r
-  unfolding step
+  pub report-answered : ln .kind ≡ ReportForm → (r : line.Reply) → replyMeaning r ≡ checkedReportOf (inputOfRecords (l .grid .grid) (l .plants) (l .sources))
+      → Answered l ln l r
+  unfolding step reply
   report-answered e r q = by-kind ReportForm e refl q

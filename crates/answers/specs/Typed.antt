@@ -1,4 +1,5 @@
--- Lines typed one after the other at a box, each answered before the next is read. A line stands here without its LF (10).
+-- Lines typed one after the other at a box, each answered before the next is read (document 01, "The text the program tally reads", line by line;
+-- "The ledger and its exact value": "Each call gets the ledger that the call before it returned or left"). A line stands here without its LF (10).
 use Prim.Native.Nat.{ℕ}
 use mathlib.Core.Path.{_≡_}
 use mathlib.Core.List.{List, [], _∷_, _++_, map}
@@ -31,9 +32,8 @@ typedLedger ls = afterCalls lineStep newLedger (map lineCall ls)
 abbrev pub typedAnswer : List (List ℕ) → List ℕ → List ℕ
 typedAnswer before line = replyText (lineReply (typedLedger before) (lineCall line))
 
--- Bytes that are the answer to a line typed after others.
-pub record TypedAnswer (bytes : List ℕ) : Type 0 where
-  pub before : List (List ℕ)
-  pub line : List ℕ
-  pub lines : Lines (line ∷ before)
-  pub text : bytes ≡ typedAnswer before line
+-- A ledger that typed lines left.
+pub record LeftByLines (l : Ledger) : Type 0 where
+  pub typed : List (List ℕ)
+  pub lines : Lines typed
+  pub ledger : l ≡ typedLedger typed

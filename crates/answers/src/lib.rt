@@ -12,7 +12,7 @@ use crate::line::Reply;
 use crate::line::entry_reply;
 use crate::line::plant_after;
 use crate::line::put_reply;
-use crate::line::report_reply;
+use crate::line::report_on;
 use crate::line::source_after;
 use forms::Kind;
 use ledger::Ledger;
@@ -90,7 +90,7 @@ fn answer_lines(input: &[u8], buffer: &mut [u8]) -> usize
                 ledger.sources[place] = kept;
                 entry_reply(answer)
             }
-            Kind::ReportForm => report_reply(ledger.report()),
+            Kind::ReportForm => report_on(ledger.grid, ledger.plants, ledger.sources),
         };
         next = put_reply(buffer, next, reply);
         at = end + 1;

@@ -4,13 +4,16 @@
 ghost use mathlib.Core.Path.{_≡_};
 ghost use Rattle.text.specs.Parts.{placed, putParts};
 ghost use Rattle.report.specs.Answers.{answerMeaning, sideMeaning, reportIn, reportMeaning};
-ghost use Rattle.report.specs.Report.{refusedWith, refusedAt};
+ghost use Rattle.report.specs.Report.{refusedWith, refusedAt, checkedReportOf, inputOfRecords};
 ghost use Rattle.answers.specs.Answers.{replyMeaning, sideParts, reportParts, replyParts};
 ghost use Rattle.answers.specs.Owner.{plantAfter, plantAnswer, sourceAfter, sourceAnswer};
 use forms::Line;
 use records::Answer;
+use records::GridRecord;
+use records::Plant;
 use records::PlantKept;
 use records::PlantRecord;
+use records::Source;
 use records::SourceKept;
 use records::SourceRecord;
 use report::Report;
@@ -57,7 +60,7 @@ pub fn entry_reply(answer: Answer) -> Reply
     }
 }
 
-pub fn report_reply(reported: Reported) -> Reply
+fn report_reply(reported: Reported) -> Reply
     ensures { λ r. ⌜ replyMeaning r ≡ reportMeaning reported ⌝ }
 {
     match reported {
@@ -66,6 +69,18 @@ pub fn report_reply(reported: Reported) -> Reply
         Reported::RefusedAt(number, source) => Reply::RefusedAt(number, source),
         Reported::Given(report) => Reply::Given(report),
     }
+}
+
+// The answer to a report on the records of a ledger.
+pub fn report_on(
+    held: GridRecord,
+    plants: [PlantRecord; Plant::PLACES],
+    sources: [SourceRecord; Source::PLACES],
+) -> Reply
+    ensures { λ r. ⌜ replyMeaning r ≡ checkedReportOf (inputOfRecords (held .grid) plants sources) ⌝ }
+{
+    let grid = held.grid;
+    report_reply(report::report_of(grid, plants, sources))
 }
 
 fn put_side(output: &mut [u8], at: usize, side: &[u8], report: SideReport) -> usize

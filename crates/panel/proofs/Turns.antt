@@ -1,5 +1,4 @@
--- A turn of the loop: the ledger is the one that the lines typed so far left, and what is printed is the answer to the line just read. Assumes
--- nothing.
+-- A turn of the loop: the ledger is the one that the lines typed so far left, and its answer is what is printed. Assumes nothing.
 use Prim.Native.Nat.{ℕ, _+_, _≤_}
 use mathlib.Core.Path.{_≡_, sym, ap, _∙_}
 use mathlib.Core.List.{List, [], _∷_, _++_}
@@ -14,38 +13,21 @@ use Rattle.ledger.specs.Operations.{newLedger}
 use Rattle.ledger.specs.declared.Ledger.{Ledger}
 use Rattle.forms.specs.Calls.{lineCall}
 use Rattle.answers.specs.Answers.{replyParts, replyText}
-use Rattle.answers.specs.Input.{lineStep, lineReply}
-use Rattle.answers.specs.Typed.{NoLf, Lines, typedLedger, TypedAnswer}
+use Rattle.answers.specs.Input.{lineStep}
+use Rattle.answers.specs.Typed.{NoLf, Lines, LeftByLines}
 use Rattle.answers.proofs.Typed.{typed-none, typed-leaves, lines-more}
 
--- Lines were typed that left this ledger.
-pub record Left (l : Ledger) : Type 0 where
-  pub before : List (List ℕ)
-  pub lines : Lines before
-  pub ledger : l ≡ typedLedger before
-
-pub left-new : {l : Ledger} → l ≡ newLedger → Left l
+pub left-new : {l : Ledger} → l ≡ newLedger → LeftByLines l
 unfolding Lines
-left-new e = record { before = []; lines = tt; ledger = e ∙ sym typed-none }
+left-new e = record { typed = []; lines = tt; ledger = e ∙ sym typed-none }
 
-module _ {l : Ledger} (h : Left l) (line : List ℕ) (n : NoLf line) where
-  pub left-next : {next : Ledger} → next ≡ lineStep l (lineCall line) → Left next
-  left-next e =
-      record {
-        before = h .before ++ (line ∷ []);
-        lines = lines-more (h .before) line (h .lines) n;
-        ledger = e ∙ ap (λ (x : Ledger). lineStep x (lineCall line)) (h .ledger) ∙ sym (typed-leaves (h .before) line);
-      }
-
-  pub typed-answer : {bytes : List ℕ} → bytes ≡ replyText (lineReply l (lineCall line)) → TypedAnswer bytes
-  unfolding Lines
-  typed-answer e =
-      record {
-        before = h .before;
-        line = line;
-        lines = (n, h .lines);
-        text = e ∙ ap (λ (x : Ledger). replyText (lineReply x (lineCall line))) (h .ledger);
-      }
+pub left-next : {l next : Ledger} → LeftByLines l → (line : List ℕ) → NoLf line → next ≡ lineStep l (lineCall line) → LeftByLines next
+left-next h line n e =
+    record {
+      typed = h .typed ++ (line ∷ []);
+      lines = lines-more (h .typed) line (h .lines) n;
+      ledger = e ∙ ap (λ (x : Ledger). lineStep x (lineCall line)) (h .ledger) ∙ sym (typed-leaves (h .typed) line);
+    }
 
 -- An answer that fits is the first bytes of the buffer that it was put into.
 pub answer-put : (d : List ℕ) (r : Reply) (e : List ℕ) (next : ℕ) → length (replyText r) ≤ length d → placed e next ≡ putParts (placed d 0) (replyParts r)

@@ -1,16 +1,20 @@
 // The program that a box runs: it reads a line from standard input, answers it, and only then reads the next. It
 // holds one ledger and one line, which its answer replaces, and nothing more, so that it can run where memory is
 // short. Any number of lines may be typed.
+ghost use mathlib.Core.Path.{_≡_};
 ghost use Prim.Native.Nat.{_≤_, _<_};
 ghost use lib.ListN.{length, take};
 ghost use Rattle.forms.specs.Form.{lineLimit};
-ghost use Rattle.answers.specs.Typed.{TypedAnswer};
+ghost use Rattle.forms.specs.Calls.{lineCall};
+ghost use Rattle.answers.specs.Answers.{replyMeaning, replyText};
+ghost use Rattle.answers.specs.Input.{lineStep, lineReply};
+ghost use Rattle.answers.specs.Typed.{LeftByLines};
 ghost use Rattle.panel.specs.Steps.{Kept};
 use answers::line::Reply;
 use answers::line::entry_reply;
 use answers::line::plant_after;
 use answers::line::put_reply;
-use answers::line::report_reply;
+use answers::line::report_on;
 use answers::line::source_after;
 use forms::Kind;
 use forms::Line;
@@ -61,10 +65,18 @@ fn next_line(buffer: &mut [u8]) -> LineRead
     LineRead::Line(count)
 }
 
-// Writes the answer to a line: the first bytes of a buffer.
-fn print(buffer: &[u8], count: usize)
+// What each turn has to meet: of a ledger that lines left, this line leaves that one and has this reply. It is for
+// the prover alone and does nothing; the compiler leaves it out, and with it the copies of its arguments.
+fn turn_meets(line: &[u8], before: Ledger, after: Ledger, reply: Reply)
+    requires { ⌜ LeftByLines before ⌝ }
+    requires { ⌜ after ≡ lineStep before (lineCall (now line)) ⌝ }
+    requires { ⌜ replyMeaning reply ≡ lineReply before (lineCall (now line)) ⌝ }
+{}
+
+// Writes the first bytes of a buffer, which are the text of a reply. The reply is for the prover alone.
+fn print(buffer: &[u8], count: usize, reply: Reply)
     requires { ⌜ count ≤ length (now buffer) ⌝ }
-    requires { ⌜ TypedAnswer (take count (now buffer)) ⌝ }
+    requires { ⌜ take count (now buffer) ≡ replyText (replyMeaning reply) ⌝ }
 {
     let mut at: usize = 0;
     while at < count {
@@ -87,6 +99,7 @@ fn answer_lines(buffer: &mut [u8])
         let LineRead::Line(count) = next_line(buffer) else {
             return;
         };
+        let before = ledger;
         let line = forms::read_line(&buffer[0..count]);
         let kind = line.kind;
         let reply = match kind {
@@ -111,10 +124,11 @@ fn answer_lines(buffer: &mut [u8])
                 ledger.sources[place] = kept;
                 entry_reply(answer)
             }
-            Kind::ReportForm => report_reply(ledger.report()),
+            Kind::ReportForm => report_on(ledger.grid, ledger.plants, ledger.sources),
         };
+        turn_meets(&buffer[0..count], before, ledger, reply);
         let end = put_reply(buffer, 0, reply);
-        print(buffer, end);
+        print(buffer, end, reply);
         left -= 1;
     }
 }

@@ -127,11 +127,8 @@ entry-reply-requires-3 c κs = search needs
 enum-told-5 : tie.Need-enum-told-5 Inv-loop μ-loop
 enum-told-5 c = search needs
 
-report-requires : tie.Need-report-requires Inv-loop μ-loop
-report-requires c κs = search needs
-
-report-reply-requires : tie.Need-report-reply-requires Inv-loop μ-loop
-report-reply-requires c κs = search needs
+report-on-requires : tie.Need-report-on-requires Inv-loop μ-loop
+report-on-requires c κs = search needs
 
 put-reply-requires : tie.Need-put-reply-requires Inv-loop μ-loop
 put-reply-requires c κs = search needs
@@ -158,7 +155,7 @@ met c =
     (λ w. rw (w .7, w .8) (plant-answered L ln _ refl (w .1 .given .1) _ _ _ (w .4 .ensures .0) (w .4 .ensures .1) (w .6 .ensures)))
     (⊎-elim
     (λ w. rw (w .7, w .8) (source-answered L ln _ refl (w .1 .given .1) _ _ _ (w .4 .ensures .0) (w .4 .ensures .1) (w .6 .ensures)))
-    (λ w. rw (w .4, w .5) (report-answered L ln (w .1 .given .1) _ (w .3 .ensures ∙ w .2 .ensures))))))
+    (λ w. rw (w .6, w .7) (report-answered L ln (w .1 .given .1) _ (w .5 .ensures))))))
     (c .match .came)
 
 loop-again : tie.Need-loop-again Inv-loop μ-loop
@@ -229,8 +226,7 @@ answer-lines-spec =
     element-set-from-kept-2
     entry-reply-requires-3
     enum-told-5
-    report-requires
-    report-reply-requires
+    report-on-requires
     put-reply-requires
     add-at
     loop-less

@@ -1,27 +1,26 @@
--- `panel::answer_lines` is safe and ends, and all that it prints is the answer to a line, after the lines before it. Assumes nothing.
+-- `panel::answer_lines` is safe and ends, and each turn meets what is asked of it: the line leaves the ledger, and has the reply, that the rules
+-- give it, and the reply's text is printed. Assumes nothing.
 use borrow.Author.Needs.{needs}
 use Prim.Native.Nat.{_-_, _≤_}
-use mathlib.Core.Path.{_≡_, refl, ap, subst, _∙_}
+use mathlib.Core.Path.{_≡_, refl, subst, _∙_}
 use mathlib.Core.Logic.{⊎-elim}
 use native.Mathlib.Omega.{arith}
 use lib.ListN.{length, take, drop}
-use Rattle.text.specs.Parts.{placed, putParts}
 use Rattle.records.specs.Records.{noPlant, noSource}
-use Rattle.report.specs.Report.{Reply}
 use Rattle.forms.specs.Calls.{lineCall}
-use Rattle.answers.specs.Answers.{replyParts, replyText}
-use Rattle.answers.specs.Input.{lineReply}
-use Rattle.answers.specs.Typed.{NoLf, TypedAnswer}
+use Rattle.answers.specs.Answers.{replyText, replyMeaning}
+use Rattle.answers.specs.Input.{lineStep, lineReply}
+use Rattle.answers.specs.Typed.{NoLf, LeftByLines}
 use Rattle.answers.proofs.Forms.{read-steps, read-replies}
 use Rattle.answers.proofs.Owner.{Answered, no-form-answered, grid-answered, plant-answered, source-answered, report-answered}
 use Rattle.answers.proofs.Typed.{answer-length}
 use Rattle.panel.specs.Steps.{Kept}
-use Rattle.panel.proofs.Turns.{Left, left-new, left-next, typed-answer, answer-put}
+use Rattle.panel.proofs.Turns.{left-new, left-next, answer-put}
 use Rattle.panel.proofs.answer_lines.Statement.{statement}
 use Rattle.panel.proofs.answer_lines.Tie as tie
 
 abbrev Inv-loop : tie.InvT-loop
-Inv-loop buffer₀ ledger₀ left₀ buffer ledger left = (length buffer ≡ length buffer₀) × Left ledger
+Inv-loop buffer₀ ledger₀ left₀ buffer ledger left = (length buffer ≡ length buffer₀) × LeftByLines ledger
 
 abbrev μ-loop : tie.MeasureT-loop
 μ-loop buffer₀ ledger₀ left₀ buffer ledger left = left
@@ -131,14 +130,8 @@ entry-reply-requires-3 c κs = search needs
 enum-told-6 : tie.Need-enum-told-6 Inv-loop μ-loop
 enum-told-6 c = search needs
 
-report-requires : tie.Need-report-requires Inv-loop μ-loop
-report-requires c κs = search needs
-
-report-reply-requires : tie.Need-report-reply-requires Inv-loop μ-loop
-report-reply-requires c κs = search needs
-
-put-reply-requires : tie.Need-put-reply-requires Inv-loop μ-loop
-put-reply-requires c κs = search needs
+report-on-requires : tie.Need-report-on-requires Inv-loop μ-loop
+report-on-requires c κs = search needs
 
 -- Where the kinds of lines meet again, the ledger and the reply are those of the line that was read.
 met : (c : tie.At-match2-came Inv-loop μ-loop)
@@ -154,47 +147,67 @@ met c =
     (λ w. rw (w .7, w .8) (plant-answered L ln _ refl (w .1 .given .1) _ _ _ (w .4 .ensures .0) (w .4 .ensures .1) (w .6 .ensures)))
     (⊎-elim
     (λ w. rw (w .7, w .8) (source-answered L ln _ refl (w .1 .given .1) _ _ _ (w .4 .ensures .0) (w .4 .ensures .1) (w .6 .ensures)))
-    (λ w. rw (w .4, w .5) (report-answered L ln (w .1 .given .1) _ (w .3 .ensures ∙ w .2 .ensures))))))
+    (λ w. rw (w .6, w .7) (report-answered L ln (w .1 .given .1) _ (w .5 .ensures))))))
     (c .match2 .came)
 
--- The text of the answer stands at the start of the buffer, and the ledger is the one that the line left.
-turned : (c : tie.After-put-reply Inv-loop μ-loop)
-    → let e = c .put-reply .last .0 in
-    let next = c .put-reply .result in
-    (next ≤ length e) × TypedAnswer (take next e) × Left (c .before .before .match2 .ledger)
+-- They are those of the bytes that were kept.
+turned : (c : tie.At-match2-came Inv-loop μ-loop)
+    → let k = c .before .before .before in
+    let l = k .before .before .before .before .before .before .before .before .before .loop .ledger in
+    let call = lineCall (take (k .before .before .count .given .0 .0 - 0) (drop 0 (k .before .before .before .before .before .before .next-line .last .0))) in
+    (c .match2 .ledger ≡ lineStep l call) × (replyMeaning (c .match2 .reply) ≡ lineReply l call)
 turned c =
+    let l = c .before .before .before .before .before .before .before .before .before .before .before .before .loop .ledger in
+    let asked = c .before .read-line .ensures in
+    let done = met c in
+    (done .ledger ∙ read-steps l _ _ _ asked, done .told ∙ read-replies l _ _ _ asked)
+
+sub-turn-meets : tie.Need-sub-turn-meets Inv-loop μ-loop
+sub-turn-meets c = omega arith
+
+part-turn-meets-start : tie.Need-part-turn-meets-start Inv-loop μ-loop
+part-turn-meets-start c = omega arith
+
+part-turn-meets-end : tie.Need-part-turn-meets-end Inv-loop μ-loop
+part-turn-meets-end c = kept (c .before .before .before .before) .0
+
+turn-meets-requires : tie.Need-turn-meets-requires Inv-loop μ-loop
+turn-meets-requires c κs =
     let m = c .before .before in
+    (m .before .before .before .before .before .before .before .before .before .before .before .before .loop .inv .1, turned m)
+
+put-reply-requires : tie.Need-put-reply-requires Inv-loop μ-loop
+put-reply-requires c κs = search needs
+
+print-requires : tie.Need-print-requires Inv-loop μ-loop
+print-requires c κs =
+    let p = c .before .before .before in
+    let m = p .before .before .before .before .before in
     let k = m .before .before .before in
     let b = k .before .before .before .before .before .before .next-line .last .0 in
     let l = k .before .before .before .before .before .before .before .before .before .loop in
-    let line = take (k .before .before .count .given .0 .0 - 0) (drop 0 b) in
-    let asked = m .before .read-line .ensures in
-    let done = met m in
-    let told = done .told ∙ read-replies (l .ledger) line _ _ asked in
-    let r = lineReply (l .ledger) (lineCall line) in
-    let n = kept k .1 in
+    let call = lineCall (take (k .before .before .count .given .0 .0 - 0) (drop 0 b)) in
+    let r = replyMeaning (m .match2 .reply) in
+    let short : length (replyText r) ≤ 140 = rw (turned m .1) (answer-length (l .ledger) call) in
     let fits : length (replyText r) ≤ length b
-    = omega (arith, answer-length (l .ledger) (lineCall line), k .before .before .before .before .before .before .next-line .kept .0, l .inv .0, k .before .before .before .before .before .before .before .before .before .before .before .before .pre) in
-    let text = answer-put b r _ _ fits (c .put-reply .ensures ∙ ap (λ (x : Reply). putParts (placed b 0) (replyParts x)) told) in (
-      text .0,
-      typed-answer (l .inv .1) line n (text .1),
-      left-next (l .inv .1) line n (done .ledger ∙ read-steps (l .ledger) line _ _ asked),
-    )
-
-print-requires : tie.Need-print-requires Inv-loop μ-loop
-print-requires c κs = let t = turned (c .before .before .before) in (t .0, t .1)
+    = omega (arith, short, k .before .before .before .before .before .before .next-line .kept .0, l .inv .0, k .before .before .before .before .before .before .before .before .before .before .before .before .pre) in
+    answer-put b r _ _ fits (p .put-reply .ensures)
 
 sub-left : tie.Need-sub-left Inv-loop μ-loop
-sub-left c = c .before .before .before .before .before .before .before .before .before .before .before .before .before .before .before .before .before .loop-test .taken
+sub-left c = c .before .before .before .before .before .before .before .before .before .before .before .before .before .before .before .before .before .before .before .before .loop-test .taken
 
 loop-less : tie.Need-loop-less Inv-loop μ-loop
-loop-less c = omega (arith, c .before .before .before .before .before .before .before .before .before .before .before .before .before .before .before .before .before .loop-test .taken)
+loop-less c = omega (arith, c .before .before .before .before .before .before .before .before .before .before .before .before .before .before .before .before .before .before .before .before .loop-test .taken)
 
 loop-again : tie.Need-loop-again Inv-loop μ-loop
 loop-again c =
     let p = c .before .before .before .before in
-    let k = p .before .before .before .before .before in
-    (p .put-reply .kept .0 ∙ k .before .before .before .before .before .before .next-line .kept .0 ∙ k .before .before .before .before .before .before .before .before .before .loop .inv .0, turned p .2)
+    let m = p .before .before .before .before .before in
+    let k = m .before .before .before in
+    let l = k .before .before .before .before .before .before .before .before .before .loop in (
+      p .put-reply .kept .0 ∙ k .before .before .before .before .before .before .next-line .kept .0 ∙ l .inv .0,
+      left-next (l .inv .1) _ (kept k .1) (turned m .0),
+    )
 
 same-length-2 : tie.Need-same-length-2 Inv-loop μ-loop
 same-length-2 c = c .before .loop .inv .0
@@ -240,8 +253,11 @@ answer-lines-spec =
     element-set-from-kept-2
     entry-reply-requires-3
     enum-told-6
-    report-requires
-    report-reply-requires
+    report-on-requires
+    sub-turn-meets
+    part-turn-meets-start
+    part-turn-meets-end
+    turn-meets-requires
     put-reply-requires
     print-requires
     sub-left
