@@ -68,49 +68,36 @@ wait $!
 END
 printf 'refused 7\nproject 0 0 0\nleakage 0 0 0\nbaseline 0 0 0\nreduction 0\n' >"$room/answered"
 
-# The first run may still have to look whether the program is built.
-./tally <$nothing >$nothing 2>&1
-./panel <$nothing >$nothing 2>&1
-check 'the example' 0 examples/site.out '' './tally <examples/site.txt'
-check 'the example through a pipe' 0 examples/site.out '' 'cat examples/site.txt | ./tally | cat'
-check 'an empty input' 0 $nothing '' './tally </dev/null'
-check 'lines that end in CR LF' 0 "$room/refused_twice" '' './tally <"$room/crlf"'
-check 'the largest input' 0 "$room/refused_each" '' './tally <"$room/largest"'
-check 'an input that is too large' 0 "$room/refused" '' './tally <"$room/too_large"'
-check 'an input that does not end' 0 "$room/refused" '' 'yes | ./tally'
-check 'an argument' 2 $nothing 'usage: ./tally' './tally examples/site.txt'
-check 'an empty argument' 2 $nothing 'usage: ./tally' './tally "" <examples/site.txt'
-check 'a closed input' 1 $nothing 'standard input is closed' './tally <&-'
-check 'a directory as input' 1 $nothing 'could not be read' './tally <examples'
-check 'an input open for writing only' 1 $nothing 'could not be read' './tally 0>"$room/written"'
-check 'a full device' 1 $nothing 'could not be written' './tally <examples/site.txt >/dev/full'
-check 'a closed output' 1 $nothing 'standard output is closed' './tally <examples/site.txt >&-'
-check 'no place for the input' 1 $nothing 'no place' 'TMPDIR=$room/none ./tally <examples/site.txt'
-check 'a program that ends badly' 1 examples/site.txt 'ended with status 3' '"$room/bad/tally" <examples/site.txt'
-check 'a build that fails' 1 $nothing 'not built' 'PATH=$room/fails:$PATH "$room/unbuilt/tally" <examples/site.txt'
-check 'a build before the run' 0 examples/site.txt 'the first build' \
-    'PATH=$room/makes:$PATH "$room/built/tally" <examples/site.txt'
-check 'a reader that ends early' 0 "$room/first_line" '' \
-    '{ ./tally <"$room/reports" 2>/dev/null; echo $? >"$room/status"; } | head -n 1; [ "$(cat "$room/status")" -ne 0 ]'
+for name in tally panel; do
+    # The first run may still have to look whether the program is built.
+    "./$name" <$nothing >$nothing 2>&1
+    check "$name, the example" 0 examples/site.out '' "./$name <examples/site.txt"
+    check "$name, the example through a pipe" 0 examples/site.out '' "cat examples/site.txt | ./$name | cat"
+    check "$name, an empty input" 0 $nothing '' "./$name </dev/null"
+    check "$name, lines that end in CR LF" 0 "$room/refused_twice" '' "./$name <\"\$room/crlf\""
+    check "$name, an argument" 2 $nothing "usage: ./$name" "./$name examples/site.txt"
+    check "$name, an empty argument" 2 $nothing "usage: ./$name" "./$name '' <examples/site.txt"
+    check "$name, a closed input" 1 $nothing 'standard input is closed' "./$name <&-"
+    check "$name, a closed output" 1 $nothing 'standard output is closed' "./$name <examples/site.txt >&-"
+    check "$name, a program that ends badly" 1 examples/site.txt 'ended with status 3' \
+        "\"\$room/bad/$name\" <examples/site.txt"
+    check "$name, a build that fails" 1 $nothing 'not built' \
+        "PATH=\$room/fails:\$PATH \"\$room/unbuilt/$name\" <examples/site.txt"
+    check "$name, a build before the run" 0 examples/site.txt 'the first build' \
+        "PATH=\$room/makes:\$PATH \"\$room/built/$name\" <examples/site.txt"
+    check "$name, a reader that ends early" 0 "$room/first_line" '' \
+        "{ ./$name <\"\$room/reports\"; echo \$? >\"\$room/status\"; } | head -n 1; [ \"\$(cat \"\$room/status\")\" -eq 141 ]"
+done
 
-check 'panel, the example' 0 examples/site.out '' './panel <examples/site.txt'
-check 'panel, the example through a pipe' 0 examples/site.out '' 'cat examples/site.txt | ./panel | cat'
-check 'panel, an empty input' 0 $nothing '' './panel </dev/null'
-check 'panel, lines that end in CR LF' 0 "$room/refused_twice" '' './panel <"$room/crlf"'
+check 'tally, the largest input' 0 "$room/refused_each" '' './tally <"$room/largest"'
+check 'tally, an input that is too large' 0 "$room/refused" '' './tally <"$room/too_large"'
+check 'tally, an input that does not end' 0 "$room/refused" '' 'yes | ./tally'
+check 'tally, a directory as input' 1 $nothing 'could not be read' './tally <examples'
+check 'tally, an input open for writing only' 1 $nothing 'could not be read' './tally 0>"$room/written"'
+check 'tally, a full device' 1 $nothing 'could not be written' './tally <examples/site.txt >/dev/full'
+check 'tally, no place for the input' 1 $nothing 'no place' 'TMPDIR=$room/none ./tally <examples/site.txt'
 check 'panel, an input of 131,074 bytes' 0 "$room/refused_longer" '' './panel <"$room/longer"'
 check 'panel, each line answered at once' 0 "$room/answered" '' 'sh "$room/line_by_line"'
-check 'panel, an argument' 2 $nothing 'usage: ./panel' './panel examples/site.txt'
-check 'panel, an empty argument' 2 $nothing 'usage: ./panel' './panel "" <examples/site.txt'
-check 'panel, a closed input' 1 $nothing 'standard input is closed' './panel <&-'
-check 'panel, a closed output' 1 $nothing 'standard output is closed' './panel <examples/site.txt >&-'
-check 'panel, a program that ends badly' 1 examples/site.txt 'ended with status 3' \
-    '"$room/bad/panel" <examples/site.txt'
-check 'panel, a build that fails' 1 $nothing 'not built' \
-    'PATH=$room/fails:$PATH "$room/unbuilt/panel" <examples/site.txt'
-check 'panel, a build before the run' 0 examples/site.txt 'the first build' \
-    'PATH=$room/makes:$PATH "$room/built/panel" <examples/site.txt'
-check 'panel, a reader that ends early' 0 "$room/first_line" '' \
-    '{ ./panel <"$room/reports"; echo $? >"$room/status"; } | head -n 1; [ "$(cat "$room/status")" -eq 141 ]'
 
 echo "$passed passed, $failed failed"
 [ "$failed" -eq 0 ]

@@ -7,7 +7,7 @@ use native.Mathlib.Decide.{decLt}
 use native.Mathlib.Omega.{arith}
 use lib.ListN.{length, take}
 use lib.Seq.{take-all, length-take-le}
-use borrow.Author.Tests.{le-leb, ne-eqb}
+use borrow.Author.Tests.{ne-eqb}
 use Rattle.rounding.specs.Calls.{afterCalls, answers}
 use Rattle.ledger.specs.Standing.{Call}
 use Rattle.ledger.specs.Operations.{newLedger, reply}
@@ -21,23 +21,24 @@ use Rattle.forms.proofs.Lines.{long-line}
 use Rattle.answers.specs.Answers.{replyText}
 use Rattle.answers.specs.Input.{onto, lines, lineStep, lineReply, linesReplies, repliesText, inputLimit, output}
 use Rattle.answers.specs.Typed.{NoLf, Lines, typedText, typedLedger, typedAnswer}
+use Rattle.answers.proofs.Replies.{linesText, output-line-by-line}
 use Rattle.answers.proofs.Lengths.{reply-length, longest-any}
 
 -- ---- the lines of a text of lines
 
 -- A line without an LF before a text that begins another line.
 one-line : (line : List ℕ) → NoLf line → (rest : List ℕ) → lines (line ++ (10 ∷ rest)) ≡ line ∷ lines rest
-unfolding NoLf lines
+unfolding lines
 one-line [] h rest = refl
 one-line (b ∷ t) h rest = rw (ne-eqb b 10 (h .0)) (ap (onto b) (one-line t (h .1) rest))
 
 last-line : (b : ℕ) (line : List ℕ) → NoLf (b ∷ line) → lines (b ∷ line) ≡ (b ∷ line) ∷ []
-unfolding NoLf lines
+unfolding lines
 last-line b [] h = rw (ne-eqb b 10 (h .0))
 last-line b (d ∷ t) h = rw (ne-eqb b 10 (h .0)) (ap (onto b) (last-line d t (h .1)))
 
 typed-lines : (ls : List (List ℕ)) → Lines ls → (rest : List ℕ) → lines (typedText ls ++ rest) ≡ ls ++ lines rest
-unfolding Lines typedText
+unfolding typedText
 typed-lines [] h rest = refl
 typed-lines (line ∷ ls) h rest =
     ap lines (append-assoc line (10 ∷ typedText ls) rest)
@@ -46,33 +47,26 @@ typed-lines (line ∷ ls) h rest =
 
 -- ---- what is printed
 
-printed : (input : List ℕ) → length input ≤ inputLimit → output input ≡ repliesText (linesReplies (lines input))
-unfolding output
-printed input h = rw (le-leb (length input) inputLimit h)
-
 -- The program tally prints for the text of the lines what their answers are, one after the other ..
 pub typed-output : (ls : List (List ℕ)) → Lines ls → length (typedText ls) ≤ inputLimit → output (typedText ls) ≡ repliesText (linesReplies ls)
-unfolding lines
+unfolding lines linesText
 typed-output ls h k =
-    printed (typedText ls) k
-    ∙ ap (λ (x : List (List ℕ)). repliesText (linesReplies x))
-    (ap lines (sym (append-nil (typedText ls))) ∙ typed-lines ls h [] ∙ append-nil ls)
+    output-line-by-line (typedText ls) k
+    ∙ ap (linesText newLedger) (ap lines (sym (append-nil (typedText ls))) ∙ typed-lines ls h [] ∙ append-nil ls)
 
 -- .. also where the last one, which then is not empty, lacks its LF.
 pub typed-output-open : (ls : List (List ℕ)) (b : ℕ) (line : List ℕ) → Lines ls → NoLf (b ∷ line) → length (typedText ls ++ (b ∷ line)) ≤ inputLimit
     → output (typedText ls ++ (b ∷ line)) ≡ repliesText (linesReplies (ls ++ ((b ∷ line) ∷ [])))
+unfolding linesText
 typed-output-open ls b line h n k =
-    printed (typedText ls ++ (b ∷ line)) k
-    ∙ ap (λ (x : List (List ℕ)). repliesText (linesReplies x))
-    (typed-lines ls h (b ∷ line) ∙ ap (λ (x : List (List ℕ)). ls ++ x) (last-line b line n))
+    output-line-by-line (typedText ls ++ (b ∷ line)) k
+    ∙ ap (linesText newLedger) (typed-lines ls h (b ∷ line) ∙ ap (λ (x : List (List ℕ)). ls ++ x) (last-line b line n))
 
 -- ---- one more line
 
 text-next : (l : Ledger) (ls : List (List ℕ)) (line : List ℕ)
-    → repliesText (answers lineStep lineReply l (map lineCall (ls ++ (line ∷ []))))
-    ≡ repliesText (answers lineStep lineReply l (map lineCall ls))
-    ++ replyText (lineReply (afterCalls lineStep l (map lineCall ls)) (lineCall line))
-unfolding answers afterCalls repliesText
+    → linesText l (ls ++ (line ∷ [])) ≡ linesText l ls ++ replyText (lineReply (afterCalls lineStep l (map lineCall ls)) (lineCall line))
+unfolding linesText answers afterCalls repliesText
 text-next l [] line = append-nil (replyText (lineReply l (lineCall line)))
 text-next l (x ∷ ls) line =
     ap (λ (t : List ℕ). replyText (lineReply l (lineCall x)) ++ t) (text-next (lineStep l (lineCall x)) ls line)
@@ -81,7 +75,7 @@ text-next l (x ∷ ls) line =
 -- Its answer is printed after theirs.
 pub typed-next : (before : List (List ℕ)) (line : List ℕ)
     → repliesText (linesReplies (before ++ (line ∷ []))) ≡ repliesText (linesReplies before) ++ typedAnswer before line
-unfolding typedLedger
+unfolding typedLedger linesText
 typed-next before line = text-next newLedger before line
 
 ledger-next : (l : Ledger) (ls : List (List ℕ)) (line : List ℕ)
@@ -98,11 +92,6 @@ typed-leaves before line = ledger-next newLedger before line
 pub typed-none : typedLedger [] ≡ newLedger
 unfolding typedLedger afterCalls
 typed-none = refl
-
-pub lines-more : (before : List (List ℕ)) (line : List ℕ) → Lines before → NoLf line → Lines (before ++ (line ∷ []))
-unfolding Lines
-lines-more [] line h n = (n, tt)
-lines-more (x ∷ before) line h n = (h .0, lines-more before line (h .1) n)
 
 -- ---- what a box keeps of a line
 

@@ -3,6 +3,7 @@
 use Prim.Native.Nat.{ℕ}
 use mathlib.Core.Path.{_≡_}
 use mathlib.Core.List.{List, [], _∷_, _++_, map}
+use Rattle.rounding.specs.Lists.{All}
 use Rattle.rounding.specs.Calls.{afterCalls}
 use Rattle.ledger.specs.Operations.{newLedger}
 use Rattle.ledger.specs.declared.Ledger.{Ledger}
@@ -11,13 +12,11 @@ use Rattle.answers.specs.Answers.{replyText}
 use Rattle.answers.specs.Input.{lineStep, lineReply}
 
 -- Bytes of which none is an LF, and lists of such lines.
-unfoldable pub NoLf : List ℕ → Type 0
-NoLf [] = Unit {0}
-NoLf (b ∷ t) = (b ≡ 10 → ⊥) × NoLf t
+abbrev pub NoLf : List ℕ → Type 0
+NoLf line = All (λ (b : ℕ). b ≡ 10 → ⊥) line
 
-unfoldable pub Lines : List (List ℕ) → Type 0
-Lines [] = Unit {0}
-Lines (line ∷ ls) = NoLf line × Lines ls
+abbrev pub Lines : List (List ℕ) → Type 0
+Lines ls = All NoLf ls
 
 -- The text that they make, each with its LF.
 unfoldable pub typedText : List (List ℕ) → List ℕ

@@ -11,7 +11,8 @@ use lib.ListN.{length}
 use Rattle.rounding.specs.Divided.{divided, sum}
 use Rattle.rounding.specs.Ratio.{Ratio, _per_, sumᵣ, Conservative}
 use Rattle.rounding.specs.declared.Direction.{Direction}
-use Rattle.rounding.proofs.Ratio.{All, Within, all-then, sum-over, conservative-within, conservative-distance}
+use Rattle.rounding.specs.Lists.{All}
+use Rattle.rounding.proofs.Ratio.{Within, all-then, sum-over, conservative-within, conservative-distance}
 use Rattle.metering.specs.Reading.{limit}
 use Rattle.metering.specs.Energy.{exactEnergy}
 use Rattle.metering.proofs.Readings.{unit-above-zero}

@@ -13,7 +13,8 @@ use Rattle.rounding.specs.declared.Direction.{Direction}
 use Rattle.rounding.specs.declared.Direction.the-variants.{Up, Down}
 use Rattle.rounding.proofs.Divided.{rounds}
 use Rattle.rounding.proofs.Integers.{Differ, less-differ}
-use Rattle.rounding.proofs.Ratio.{Within, All, sum-within-equal, within-divided, conservative-widen}
+use Rattle.rounding.specs.Lists.{All}
+use Rattle.rounding.proofs.Ratio.{Within, sum-within-equal, within-divided, conservative-widen}
 use Rattle.report.specs.Report.{reduction}
 use Rattle.ledger.specs.Exact.{sideAllowance, reductionAllowance}
 

@@ -14,7 +14,8 @@ use Rattle.rounding.specs.declared.Direction.{Direction}
 use Rattle.rounding.specs.Outcome.{given}
 use Rattle.rounding.specs.Divided.{divided, opposite, sum}
 use Rattle.rounding.specs.Ratio.{_÷_, whole, Conservative}
-use Rattle.rounding.proofs.Ratio.{All, all-then, sum-conservative, less-conservative}
+use Rattle.rounding.specs.Lists.{All}
+use Rattle.rounding.proofs.Ratio.{all-then, sum-conservative, less-conservative}
 use Rattle.rounding.proofs.Tests.{and-both, ltb-kept}
 use Rattle.metering.specs.Reading.{unit, limit, exact, accepted, wattHours}
 use Rattle.metering.specs.Energy.{firstOf, lastOf, addingOf, takingOf, adding, taking, isAccepted, runsBack, allMeters, anyMeter}

@@ -5,6 +5,7 @@ use mathlib.Core.List.{List, [], _∷_, _++_}
 use native.Mathlib.Omega.{arith}
 use lib.ListN.{length, take, drop}
 use lib.Seq.{take-at}
+use Rattle.rounding.proofs.Ratio.{all-more}
 use Rattle.text.specs.Parts.{Placed, placed, putParts}
 use Rattle.text.proofs.Buffer.{after-fits, put-length, put-stands}
 use Rattle.text.proofs.Puts.{parts-text}
@@ -14,18 +15,17 @@ use Rattle.ledger.specs.declared.Ledger.{Ledger}
 use Rattle.forms.specs.Calls.{lineCall}
 use Rattle.answers.specs.Answers.{replyParts, replyText}
 use Rattle.answers.specs.Input.{lineStep}
-use Rattle.answers.specs.Typed.{NoLf, Lines, LeftByLines}
-use Rattle.answers.proofs.Typed.{typed-none, typed-leaves, lines-more}
+use Rattle.answers.specs.Typed.{NoLf, LeftByLines}
+use Rattle.answers.proofs.Typed.{typed-none, typed-leaves}
 
 pub left-new : {l : Ledger} → l ≡ newLedger → LeftByLines l
-unfolding Lines
 left-new e = record { typed = []; lines = tt; ledger = e ∙ sym typed-none }
 
 pub left-next : {l next : Ledger} → LeftByLines l → (line : List ℕ) → NoLf line → next ≡ lineStep l (lineCall line) → LeftByLines next
 left-next h line n e =
     record {
       typed = h .typed ++ (line ∷ []);
-      lines = lines-more (h .typed) line (h .lines) n;
+      lines = all-more NoLf (h .typed) line (h .lines) n;
       ledger = e ∙ ap (λ (x : Ledger). lineStep x (lineCall line)) (h .ledger) ∙ sym (typed-leaves (h .typed) line);
     }
 

@@ -9,7 +9,7 @@ use mathlib.Core.Logic.{inl, inr}
 use native.Mathlib.Omega.{arith}
 use native.Mathlib.Nat.{eq-or-lt-of-le}
 use lib.ListN.{length}
-use Rattle.rounding.proofs.Ratio.{All}
+use Rattle.rounding.specs.Lists.{All}
 use Rattle.report.specs.Report.{Numbered, prependStanding, standing, selected}
 
 abbrev pub numbered : {A : Type 0} → ℕ → A → Numbered A

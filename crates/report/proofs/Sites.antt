@@ -7,7 +7,8 @@ use native.Mathlib.Omega.{arith}
 use lib.ListN.{length, length-map}
 use Rattle.rounding.specs.Ratio.{whole}
 use Rattle.rounding.specs.declared.Direction.{Direction}
-use Rattle.rounding.proofs.Ratio.{Within, All, all-of, all-then, all-map, sum-within-equal, sum-over, sum-unsigned, conservative-within}
+use Rattle.rounding.specs.Lists.{All}
+use Rattle.rounding.proofs.Ratio.{Within, all-of, all-then, all-map, sum-within-equal, sum-over, sum-unsigned, conservative-within}
 use Rattle.fuel.specs.Fuel.{exactMilligrams, roundedMilligrams}
 use Rattle.fuel.specs.declared.FuelLine.{FuelLine}
 use Rattle.fuel.proofs.Fuel.{line-over, line-conservative}

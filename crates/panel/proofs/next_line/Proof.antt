@@ -6,7 +6,7 @@ use mathlib.Core.Logic.{⊎-elim}
 use native.Mathlib.Omega.{arith}
 use lib.ListN.{length, take, length-set}
 use Rattle.answers.specs.Typed.{NoLf}
-use Rattle.panel.proofs.Kept.{no-lf-more, no-lf-none}
+use Rattle.panel.proofs.Kept.{no-lf-more}
 use Rattle.panel.proofs.next_line.Statement.{statement}
 use Rattle.panel.proofs.next_line.Tie as tie
 
@@ -18,7 +18,7 @@ abbrev μ-loop : tie.MeasureT-loop
 μ-loop buffer₀ byte₀ count₀ left₀ buffer byte count left = left
 
 loop-holds : tie.Need-loop-holds Inv-loop μ-loop
-loop-holds c = (omega arith, refl, omega arith, no-lf-none)
+loop-holds c = (omega arith, refl, omega arith, tt)
 
 slice-aggregate-read : tie.Need-slice-aggregate-read Inv-loop μ-loop
 slice-aggregate-read c = omega arith
