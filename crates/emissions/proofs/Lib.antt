@@ -1,3 +1,4 @@
+pub mod Grids
 pub mod Factors
 pub mod Losses
 pub mod Figures

@@ -1,4 +1,5 @@
 pub mod Factor
+pub mod Grid
 pub mod Loss
 pub mod Figure
 pub mod Answers

@@ -34,7 +34,8 @@ use Rattle.emissions.specs.declared.Supply.the-variants.{Combined, GridDefault,
 use Rattle.emissions.specs.declared.Loss.{Loss}
 use Rattle.emissions.specs.declared.Loss.the-variants.{Nothing, Measured, Default20, Default3}
 use Rattle.emissions.specs.declared.Consumption.{Consumption}
-use Rattle.records.specs.Judging.{gridJudged, onRead, onEnergy, kept, sourceJudged, isThere, dropJudged, linesOf, allWithinLimits, plantJudged, supplyWithinLimits, lossWithinLimits, lossMatches}
+use Rattle.emissions.specs.Grid.{marginWithinLimits, weightsFull, enteredGrid, gridJudged}
+use Rattle.records.specs.Judging.{onRead, onEnergy, kept, sourceJudged, isThere, dropJudged, linesOf, allWithinLimits, plantJudged, supplyWithinLimits, lossWithinLimits, lossMatches}
 use Rattle.report.specs.Report.{ReportInput, Numbered, prependStanding, standing, sourcesOf, plantsOf, siteOf, sourceFigure, Figured, Figures, declined, figured, withFigure, prepended, figuresFrom, ofSide, SideReport, sideFits, sideReport, reduction, Report, reportFrom, allFit, Reply, ok, refusedWith, refusedAt, reported, damaged, replyFrom, reportOf, checkedReportOf, acknowledged, intact}
 use Rattle.ledger.specs.Standing.{Call, enterGrid, enterPlant, enterSource, dropPlant, dropSource, report, answer}
 use Rattle.ledger.specs.Operations.{recorded, reply}
@@ -76,7 +77,8 @@ then-low (given a) f h k = k a
 
 grid-low : (g : GridEntry) → Low (gridJudged g)
 unfolding gridJudged
-grid-low g = unless-low 2 (leb (g .margin) factorLimit) _ (omega arith) (given-low g)
+grid-low g =
+    unless-low 2 (marginWithinLimits (g .margin)) _ (omega arith) (unless-low 15 (weightsFull (g .margin)) _ (omega arith) (given-low (enteredGrid g)))
 
 plant-low : (n : ℕ) (p : Plant) → Low (plantJudged n p)
 unfolding plantJudged

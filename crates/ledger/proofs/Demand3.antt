@@ -9,20 +9,20 @@ use native.Mathlib.Omega.{arith}
 use lib.Dec.{eqb}
 use lib.ListN.{length, getD, set, replicate, take, length-set}
 use lib.Seq.{getD-set-same, getD-set-other}
-use borrow.Author.Tests.{eqb-true, eqb-false, le-leb}
+use borrow.Author.Tests.{eqb-true, eqb-false}
 use Rattle.rounding.specs.Calls.{afterCalls, answers}
 use Rattle.rounding.proofs.Calls.{calls-held, calls-agree, held-at}
 use Rattle.rounding.specs.Outcome.{Outcome, refused, given}
-use Rattle.emissions.specs.Factor.{factorLimit}
+use Rattle.emissions.specs.Grid.{enteredGrid, gridJudged}
 use Rattle.emissions.specs.declared.GridEntry.{GridEntry}
-use Rattle.emissions.specs.declared.Grid.{Grid}
-use Rattle.emissions.specs.declared.Grid.the-variants.{Absent, Entered}
-use Rattle.emissions.proofs.Factors.{GridSound}
-use Rattle.records.specs.Judging.{gridJudged, sourceJudged, isThere, dropJudged, plantJudged, whereGiven}
+use Rattle.emissions.specs.declared.EnteredGrid.{EnteredGrid}
+use Rattle.emissions.specs.declared.Grid.the-variants.{Absent}
+use Rattle.emissions.proofs.Grids.{grid-facts, sound-intact}
+use Rattle.records.specs.Judging.{sourceJudged, isThere, dropJudged, plantJudged, whereGiven}
 use Rattle.records.specs.Records.{noGrid, noPlant, noSource, gridRecord, plantRecord, sourceRecord, plantIn, sourceIn}
-use Rattle.report.specs.Intact.{gridIntact, plantIntact, sourceIntact, allIntact}
+use Rattle.report.specs.Intact.{plantIntact, sourceIntact, allIntact}
 use Rattle.report.specs.Report.{ReportInput, Report, Reply, reported, damaged, reportOf, checkedReportOf, acknowledged, intact}
-use Rattle.ledger.specs.Standing.{Call, enterGrid, enterPlant, enterSource, dropPlant, dropSource, report, Standing, nothing, put, after, keptOf, inputOfStanding, answer}
+use Rattle.ledger.specs.Standing.{Call, enterGrid, enterPlant, enterSource, dropPlant, dropSource, report, Standing, nothing, put, after, keptOf, gridOf, inputOfStanding, answer}
 use Rattle.ledger.specs.Operations.{newLedger, recorded, withGrid, withPlant, withSource, step, reply}
 use Rattle.ledger.specs.Owner.{ownerStep, ownerReply}
 use Rattle.ledger.specs.Claim.{Claim, Demand3, OwnerDemand3}
@@ -32,7 +32,7 @@ use Rattle.records.specs.declared.Source.{Source}
 use Rattle.records.specs.declared.PlantRecord.{PlantRecord}
 use Rattle.records.specs.declared.SourceRecord.{SourceRecord}
 use Rattle.ledger.specs.declared.Ledger.{Ledger}
-use Rattle.ledger.proofs.Entries.{grid-facts, PlantFacts, plant-facts, SourceFacts, source-facts, drop-facts}
+use Rattle.ledger.proofs.Entries.{PlantFacts, plant-facts, SourceFacts, source-facts, drop-facts}
 use Rattle.report.proofs.Lists.{never-some}
 use Rattle.ledger.proofs.Stores.{owner-stores, owner-answers}
 use Rattle.ledger.proofs.Figures.{Accepted, report-safe}
@@ -75,14 +75,14 @@ kept-put place n v k = go (eqb k n)
 -- ---- each call keeps the agreement
 
 module _ (l : Ledger) (s : Standing) (h : Agree l s) where
-  grid-entered : (g : GridEntry) → g .margin ≤ factorLimit
-      → Agree (withGrid l (gridRecord g)) (record { grid = Entered g; plant = s .plant; source = s .source })
-  grid-entered g fits =
+  grid-entered : (g : GridEntry) → gridJudged g ≡ given (enteredGrid g)
+      → Agree (withGrid l (gridRecord (enteredGrid g))) (record { grid = some g; plant = s .plant; source = s .source })
+  grid-entered g judged =
       record {
         plants = h .plants;
         sources = h .sources;
-        same = ap (λ (b : ReportInput). record { grid = Entered g; plant = b .plant; source = b .source }) (h .same);
-        accepted = record { grid = fits; plant = h .accepted .plant; source = h .accepted .source };
+        same = ap (λ (b : ReportInput). record { grid = gridOf (some g); plant = b .plant; source = b .source }) (h .same);
+        accepted = record { grid = judged; plant = h .accepted .plant; source = h .accepted .source };
       }
 
   plant-put : (n : ℕ) (r : PlantRecord) → n ≤ 7 → ((p : Plant) → plantIn r ≡ some p → PlantFacts n p)
@@ -113,8 +113,8 @@ module _ (l : Ledger) (s : Standing) (h : Agree l s) where
             ap (λ (f : ℕ → Option Source). record { grid = l .grid .grid; plant = recorded l .plant; source = f })
             (fun-ext (λ k. set-place sourceIn noSource (l .sources) n r k (omega (arith, h .sources))))
             ∙ ap (λ (b : ReportInput). record { grid = b .grid; plant = b .plant; source = put (b .source) n (sourceIn r) }) (h .same)
-            ∙ ap (λ (o : Option Source). record { grid = s .grid; plant = s .plant; source = put (λ j. keptOf (s .source j)) n o }) shows
-            ∙ ap (λ (f : ℕ → Option Source). record { grid = s .grid; plant = s .plant; source = f }) (sym (fun-ext (kept-put (s .source) n v)));
+            ∙ ap (λ (o : Option Source). record { grid = gridOf (s .grid); plant = s .plant; source = put (λ j. keptOf (s .source j)) n o }) shows
+            ∙ ap (λ (f : ℕ → Option Source). record { grid = gridOf (s .grid); plant = s .plant; source = f }) (sym (fun-ext (kept-put (s .source) n v)));
         accepted =
             record {
               grid = h .accepted .grid;
@@ -132,14 +132,14 @@ keeps : (l : Ledger) (s : Standing) (c : Call) → Agree l s → Agree (step l c
 unfolding step after noPlant noSource
 keeps l s (enterGrid g) h = go (gridJudged g) refl
   where
-    go : (o : Outcome GridEntry) → gridJudged g ≡ o
+    go : (o : Outcome EnteredGrid) → gridJudged g ≡ o
         → Agree (whereGiven o (λ a. withGrid l (gridRecord a)) l)
-        (whereGiven o (λ a. record { grid = Entered g; plant = s .plant; source = s .source }) s)
+        (whereGiven o (λ a. record { grid = some g; plant = s .plant; source = s .source }) s)
     go (refused k) e = h
     go (given a) e =
         let f = grid-facts g a e in
-        subst (λ (x : GridEntry). Agree (withGrid l (gridRecord x)) (record { grid = Entered g; plant = s .plant; source = s .source }))
-        (sym (f .0)) (grid-entered l s h g (f .1))
+        subst (λ (x : EnteredGrid). Agree (withGrid l (gridRecord x)) (record { grid = some g; plant = s .plant; source = s .source }))
+        (sym (f .0)) (grid-entered l s h g (e ∙ ap given (f .0)))
 keeps l s (enterPlant n p) h = go (plantJudged n p) refl
   where
     go : (o : Outcome Plant) → plantJudged n p ≡ o
@@ -188,16 +188,12 @@ unfolding allIntact
 all-intact p place h zero = refl
 all-intact p place h (suc k) = simp (h k, all-intact p place h k)
 
-grid-intact : (g : Grid) → GridSound g → gridIntact g ≡ true
-grid-intact Absent h = refl
-grid-intact (Entered g) h = le-leb (g .margin) factorLimit h
-
 -- What stands was accepted, so that nothing of it is damaged.
 input-intact : (s : Standing) → Accepted s → intact (inputOfStanding s) ≡ true
 unfolding intact
 input-intact s h =
     simp (
-      grid-intact (s .grid) (h .grid),
+      sound-intact (gridOf (s .grid)) (h .grid),
       all-intact plantIntact (s .plant) (λ n. plant n (s .plant n) refl) 8,
       all-intact sourceIntact (λ n. keptOf (s .source n)) (λ n. source n (s .source n) refl) 32,
     )

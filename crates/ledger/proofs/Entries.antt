@@ -17,26 +17,16 @@ use Rattle.metering.specs.declared.EnergyJudged.{EnergyJudged}
 use Rattle.metering.specs.declared.EnergyJudged.the-variants as energyJudged
 use Rattle.metering.proofs.Energy.{was-read, was-settled, taken-length, energy-limit, energy-conservative}
 use Rattle.rounding.specs.Outcome.{Outcome, given, refuseUnless}
-use Rattle.emissions.specs.Factor.{factorLimit, direction}
-use Rattle.emissions.specs.declared.GridEntry.{GridEntry}
+use Rattle.emissions.specs.Factor.{direction}
 use Rattle.rounding.proofs.Outcomes.{never-given, given-is, test-held}
 use Rattle.emissions.proofs.Losses.{LossSound}
-use Rattle.records.specs.Judging.{gridJudged, dropJudged, metersOf, onRead, onEnergy, kept, sourceJudged, linesOf, allWithinLimits, plantJudged, supplyWithinLimits, lossWithinLimits, lossMatches}
+use Rattle.records.specs.Judging.{dropJudged, metersOf, onRead, onEnergy, kept, sourceJudged, linesOf, allWithinLimits, plantJudged, supplyWithinLimits, lossWithinLimits, lossMatches}
 use Rattle.report.specs.Intact.{isGiven, sourceIntact}
 use Rattle.report.proofs.Walks.{loss-sound}
 use Rattle.ledger.specs.Standing.{energyOf}
 use Rattle.records.specs.declared.Plant.{Plant}
 use Rattle.records.specs.declared.SourceEntry.{SourceEntry}
 use Rattle.records.specs.declared.Source.{Source}
-
--- ---- the grid
-
--- An accepted grid entry is what was entered, with its factor within the limit.
-pub grid-facts : (g a : GridEntry) → gridJudged g ≡ given a → (a ≡ g) × (g .margin ≤ factorLimit)
-unfolding gridJudged
-grid-facts g a e =
-    let p = test-held 2 (leb (g .margin) factorLimit) (given g) e in
-    (sym (given-is (p .1)), leb-true _ _ (p .0))
 
 -- ---- a plant
 

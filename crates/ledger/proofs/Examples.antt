@@ -2,7 +2,7 @@
 -- told from others that its inequalities would allow. Assumes nothing.
 use Prim.Native.Nat.{ℕ, _+_, _*_, _<_, _≤_}
 use mathlib.Core.Path.{_≡_, refl, sym, ap, subst, _∙_}
-use mathlib.Core.Bool.{Bool, true, false, cond}
+use mathlib.Core.Bool.{Bool, true, false, cond, true≢false}
 use mathlib.Core.List.{List, [], _∷_}
 use native.Mathlib.Omega.{arith}
 use lib.Dec.{lit<, lit≤}
@@ -21,18 +21,23 @@ use Rattle.metering.specs.declared.Meter.{Meter}
 use Rattle.fuel.specs.Fuel.{withinLimits, exactMilligrams, roundedMilligrams}
 use Rattle.fuel.specs.declared.FuelLine.{FuelLine}
 use Rattle.rounding.specs.Outcome.{Outcome, refused, given}
-use Rattle.emissions.specs.Factor.{combined, captive, margin, exactMargin, gridDefault, captiveJudged, lowDefault, exactCaptive, exactFactorOf, chosen}
+use Rattle.emissions.specs.Factor.{combined, captive, exactCombined, roundedCombined, margin, exactMargin, gridDefault, captiveJudged, lowDefault, exactCaptive, exactFactorOf, chosen}
 use Rattle.emissions.specs.Loss.{lossOf}
 use Rattle.emissions.specs.Figure.{energyWithLosses, gramsOf, exactGrams, figureOf}
 use Rattle.emissions.specs.declared.GridKind.the-variants.{Thermal}
+use Rattle.emissions.specs.declared.CombinedMargin.the-variants.{Stated, Mean}
+use Rattle.emissions.specs.declared.GridEntry.{GridEntry}
+use Rattle.emissions.specs.declared.EnteredGrid.{EnteredGrid}
+use Rattle.emissions.specs.declared.Grid.the-variants.{Entered}
 use Rattle.emissions.specs.declared.Side.{Side}
 use Rattle.emissions.specs.declared.Side.the-variants.{Project, Leakage, Baseline}
 use Rattle.emissions.specs.declared.Supply.{Supply}
 use Rattle.emissions.specs.declared.Supply.the-variants.{Combined, GridDefault, Captive, CaptiveDefault, Either}
 use Rattle.emissions.specs.declared.Loss.{Loss}
 use Rattle.emissions.specs.declared.Loss.the-variants.{Nothing, Measured, Default20, Default3}
-use Rattle.emissions.proofs.Factors.{GridSound}
-use Rattle.records.specs.Judging.{gridJudged, metersOf, sourceJudged, isThere, dropJudged, linesOf, allWithinLimits, plantJudged}
+use Rattle.emissions.proofs.Grids.{GridSound, sound-intact}
+use Rattle.emissions.specs.Grid.{gridJudged, gridIntact}
+use Rattle.records.specs.Judging.{metersOf, sourceJudged, isThere, dropJudged, linesOf, allWithinLimits, plantJudged}
 use Rattle.records.specs.Records.{noGrid, noPlant, noSource, gridRecord}
 use Rattle.report.specs.Intact.{allIntact}
 use Rattle.report.specs.Report.{ReportInput, standing, selected, consumption, plantMilligrams, exactPlant, plantsAt, siteOf, sourcesOf, sourceFigure, Figured, Figures, declined, figured, figuresFrom, ofSide, SideReport, sideReport, Report, reduction, reportFrom, Reply, ok, refusedWith, refusedAt, reported, damaged, allFit, replyFrom, reportOf, checkedReportOf, acknowledged, intact}
@@ -75,7 +80,15 @@ abbrev pub plant : ℕ → ℕ → FuelLine → FuelLine → Plant
 plant S G l k = record { site = S; generation = G; lines = l ∷ k ∷ fuel 0 0 0 ∷ fuel 0 0 0 ∷ []; count = 2 }
 
 abbrev pub thermal : ℕ → Call
-thermal F = enterGrid (record { margin = F; kind = Thermal })
+thermal F = enterGrid (record { margin = Stated F; kind = Thermal })
+
+-- A grid by its operating and build margin and their weights.
+abbrev pub weighted : ℕ → ℕ → ℕ → ℕ → GridEntry
+weighted O B X Y =
+    record { margin = Mean record { operating = O; build = B; weights = record { operating = X; build = Y } }; kind = Thermal }
+
+abbrev pub margins : ℕ → ℕ → ℕ → ℕ → Call
+margins O B X Y = enterGrid (weighted O B X Y)
 
 -- A side's tonnes, grams and sources.
 abbrev pub totals : ℕ → ℕ → ℕ → SideReport
@@ -87,12 +100,12 @@ zeros = totals 0 0 0
 
 -- The answers to a list of calls from a new ledger. `unfolding run` opens what they compute by.
 unfoldable pub run : List Call → List Reply
-unfolding answers step reply newLedger noGrid noPlant noSource answer checkedReportOf intact allIntact gridJudged linesOf allWithinLimits plantJudged metersOf sourceJudged dropJudged withinLimits exactMilligrams roundedMilligrams judgedMeters judgedReadings allMeters anyMeter roundedAdding roundedTaking settledEnergy sum divided exactRegister isReadableRegister ofBits standing selected consumption plantMilligrams plantsAt siteOf sourceFigure figuresFrom ofSide sideReport reduction reportFrom reportOf margin gridDefault captiveJudged lowDefault chosen lossOf energyWithLosses gramsOf figureOf
+unfolding answers step reply newLedger noGrid noPlant noSource answer checkedReportOf intact allIntact gridJudged linesOf allWithinLimits plantJudged metersOf sourceJudged dropJudged withinLimits exactMilligrams roundedMilligrams judgedMeters judgedReadings allMeters anyMeter roundedAdding roundedTaking settledEnergy sum divided exactRegister isReadableRegister ofBits standing selected consumption plantMilligrams plantsAt siteOf sourceFigure figuresFrom ofSide sideReport reduction reportFrom reportOf roundedCombined margin gridDefault captiveJudged lowDefault chosen lossOf energyWithLosses gramsOf figureOf
 run calls = answers step reply newLedger calls
 
 -- What stands after a list of calls. `unfolding stands` opens what its exact values compute by.
 unfoldable pub stands : List Call → Standing
-unfolding afterCalls after run energyOf exactEnergy exactMargin exactPlant sumᵣ exactCaptive exactFactorOf exactGrams exactFigure gap exactSide
+unfolding afterCalls after run energyOf exactEnergy exactCombined exactMargin exactPlant sumᵣ exactCaptive exactFactorOf exactGrams exactFigure gap exactSide
 stands calls = afterCalls after nothing calls
 
 -- "An empty ledger reports zeros."
@@ -154,13 +167,16 @@ baseline-greater = refl
 -- ---- either: the greater factor for project, the smaller for baseline
 
 -- A source of 1,000 kWh, so that its grams are its factor. The captive factor is 600,000.000001: 600,001 up, 600,000 down.
-abbrev pub choosing : Side → ℕ → List Call
-choosing side F =
-    thermal F
+abbrev pub choosingAt : Side → Call → List Call
+choosingAt side grid =
+    grid
     ∷ enterPlant 0 (plant 0 1000 (fuel 1000 60000 10000) (fuel 1 1 1))
     ∷ enterSource 0 (source side (Either 0) (Measured 0) (counts Plus 0 1000000))
     ∷ report
     ∷ []
+
+abbrev pub choosing : Side → ℕ → List Call
+choosing side F = choosingAt side (thermal F)
 
 abbrev pub projectGrams : ℕ → List Reply
 projectGrams g = ok ∷ ok ∷ ok ∷ reported (record { project = totals 1 g 1; leakage = zeros; baseline = zeros; reduction = negsuc 0 }) ∷ []
@@ -197,6 +213,77 @@ equal-takes-combined = (refl, refl)
 pub greater-takes-captive : Is (exactSide (stands (choosing Project 600000)) Project) 600000000001 1000000000000
 unfolding stands
 greater-takes-captive = (refl, refl)
+
+-- ---- margins: each side takes the mean rounded its way, and the exact values use the unrounded mean
+
+-- The mean is 750,000.5, and a source of 1,000 kWh has so many grams.
+abbrev pub meanCalls : Side → List Call
+meanCalls side = margins 1000001 500000 50 50 ∷ enterSource 0 (source side Combined (Measured 0) (counts Plus 0 1000000)) ∷ report ∷ []
+
+pub project-takes-mean-up : run (meanCalls Project)
+    ≡ ok ∷ ok ∷ reported (record { project = totals 1 750001 1; leakage = zeros; baseline = zeros; reduction = negsuc 0 }) ∷ []
+unfolding run
+project-takes-mean-up = refl
+
+pub baseline-takes-mean-down : run (meanCalls Baseline)
+    ≡ ok ∷ ok ∷ reported (record { project = zeros; leakage = zeros; baseline = totals 0 750000 1; reduction = pos 0 }) ∷ []
+unfolding run
+baseline-takes-mean-down = refl
+
+-- 750,000.5 grams on either side.
+pub exact-mean-of-project : Is (exactSide (stands (meanCalls Project)) Project) 7500005 10000000
+unfolding stands
+exact-mean-of-project = (refl, refl)
+
+pub exact-mean-of-baseline : Is (exactSide (stands (meanCalls Baseline)) Baseline) 7500005 10000000
+unfolding stands
+exact-mean-of-baseline = (refl, refl)
+
+-- The weights go with their margins: (1 × 30 + 2 × 70) ÷ 100 = 1.7 mg/kWh, over 1,000 kWh.
+pub exact-weights : Is (exactSide (stands (margins 1 2 30 70 ∷ enterSource 0 (source Project Combined (Measured 0) (counts Plus 0 1000000)) ∷ [])) Project)
+    17 10000000
+unfolding stands
+exact-weights = (refl, refl)
+
+-- The mean is 600,000.5. Rounded each way it equals the captive factor rounded so, 600,001 and 600,000: combined is taken, and the exact figure
+-- is the mean's. Rounded the other way captive would be taken, whose exact figure is 600,000.000001 grams.
+abbrev pub nearCaptive : Call
+nearCaptive = margins 600000 600001 50 50
+
+pub equal-mean-takes-combined : Is (exactSide (stands (choosingAt Project nearCaptive)) Project) 6000005 10000000
+    × Is (exactSide (stands (choosingAt Baseline nearCaptive)) Baseline) 6000005 10000000
+unfolding stands
+equal-mean-takes-combined = ((refl, refl), (refl, refl))
+
+-- "A margin above its limit is refused 2, then weights that don't sum to 100 are refused 15", whatever the weight of the margin.
+pub two-before-fifteen : run (
+    margins 10000001 0 60 60
+    ∷ margins 0 10000001 100 0
+    ∷ margins 10000000 10000000 60 60
+    ∷ margins 10000000 10000000 49 50
+    ∷ margins 10000000 10000000 0 100
+    ∷ []
+    )
+    ≡ refusedWith 2 ∷ refusedWith 2 ∷ refusedWith 15 ∷ refusedWith 15 ∷ ok ∷ []
+unfolding run
+two-before-fifteen = refl
+
+-- A refused entry leaves the grid that stood; an accepted one is in its place, of either form.
+pub grid-replaced : run (
+    margins 1000000 1000000 50 50
+    ∷ enterSource 0 (source Project Combined (Measured 0) (counts Plus 0 1000000))
+    ∷ margins 5000000 5000000 50 51
+    ∷ report
+    ∷ thermal 3000000
+    ∷ report
+    ∷ []
+    )
+    ≡ ok ∷ ok ∷ refusedWith 15
+    ∷ reported (record { project = totals 1 1000000 1; leakage = zeros; baseline = zeros; reduction = negsuc 0 })
+    ∷ ok
+    ∷ reported (record { project = totals 3 3000000 1; leakage = zeros; baseline = zeros; reduction = negsuc 2 }) ∷ []
+unfolding run
+grid-replaced = refl
 
 -- ---- what stands
 
@@ -391,16 +478,26 @@ answer-never-damaged b report e = report-never-damaged (figuresFrom b (sourcesOf
 pub never-damaged : (calls : List Call) (i : ℕ) → i < length calls → getD (answers step reply newLedger calls) i ok ≡ damaged → ⊥
 never-damaged calls i h e = answer-never-damaged _ _ (sym (claim-at calls i h report ok .answered) ∙ e)
 
--- A ledger whose grid has a margin above the limit is answered so, and no list of calls leaves it.
-abbrev pub damagedLedger : Ledger
-damagedLedger = record { grid = gridRecord (record { margin = 10000001; kind = Thermal }); plants = newLedger .plants; sources = newLedger .sources }
+-- A ledger with a grid and nothing else.
+abbrev pub gridOnly : EnteredGrid → Ledger
+gridOnly g = record { grid = gridRecord g; plants = newLedger .plants; sources = newLedger .sources }
 
-pub is-damaged : reply damagedLedger report ≡ damaged
+-- A margin above the limit.
+abbrev pub aboveLimit : EnteredGrid
+aboveLimit = record { entry = record { margin = Stated 10000001; kind = Thermal }; up = 10000001; down = 10000001 }
+
+-- The mean of 3 and 4, and 4 in place of 3 where it is rounded down.
+abbrev pub otherRounding : EnteredGrid
+otherRounding = record { entry = weighted 3 4 50 50; up = 4; down = 4 }
+
+-- A ledger with such a grid is answered so, and no list of calls leaves it.
+pub are-damaged : (reply (gridOnly aboveLimit) report ≡ damaged) × (reply (gridOnly otherRounding) report ≡ damaged)
 unfolding run
-is-damaged = refl
+are-damaged = (refl, refl)
 
-pub no-calls-leave-it : (calls : List Call) → afterCalls step newLedger calls ≡ damagedLedger → ⊥
-no-calls-leave-it calls e =
+pub no-calls-leave-it : (g : EnteredGrid) → gridIntact (Entered g) ≡ false → (calls : List Call) → afterCalls step newLedger calls ≡ gridOnly g → ⊥
+no-calls-leave-it g d calls e =
     let h = records-show calls in
-    let k : 10000001 ≤ 10000000 = subst GridSound (sym (ap (λ (b : ReportInput). b .grid) (h .same)) ∙ ap (λ (l : Ledger). l .grid .grid) e) (h .accepted .grid) in
-    omega arith
+    let k : GridSound (Entered g) =
+    subst GridSound (sym (ap (λ (b : ReportInput). b .grid) (h .same)) ∙ ap (λ (l : Ledger). l .grid .grid) e) (h .accepted .grid) in
+    true≢false (sym (sound-intact (Entered g) k) ∙ d)

@@ -23,12 +23,13 @@ use Rattle.emissions.specs.Figure.{Figure, figureOf, energyWithLosses, gramsOf,
 use Rattle.emissions.specs.declared.Side.{Side}
 use Rattle.emissions.specs.declared.Side.the-variants.{Project, Leakage, Baseline}
 use Rattle.rounding.proofs.Outcomes.{given-is, then-given}
-use Rattle.emissions.proofs.Factors.{GridSound, FactorSound, chosen-sound}
+use Rattle.emissions.proofs.Grids.{GridSound}
+use Rattle.emissions.proofs.Factors.{FactorSound, chosen-sound}
 use Rattle.emissions.proofs.Losses.{loss-limit}
 use Rattle.emissions.proofs.Figures.{figure-conservative, figure-within-allowance, figure-over}
 use Rattle.records.specs.Judging.{metersOf, kept}
 use Rattle.report.specs.Report.{Numbered, sourcesOf, plantsOf, consumption, comparesFactor, comparesLoss, siteOf, captiveAt, sourceFigure, Figured, Figures, declined, figured, withFigure, figuresFrom, sideIndex, ofSide, gramsIn, sideReport, Report, reportFrom, refusedWith, refusedAt, reported, allFit, replyFrom, reportOf}
-use Rattle.ledger.specs.Standing.{Standing, energyOf, keptOf, inputOfStanding}
+use Rattle.ledger.specs.Standing.{Standing, energyOf, keptOf, gridOf, inputOfStanding}
 use Rattle.ledger.specs.Exact.{figuredAt, exactEnergyOf, exactFigure, gap, listOf, figuresOf, exactSide, exactReduction, sideAllowance}
 use Rattle.ledger.specs.Claim.{SourceSafe, SideSafe, ReportSafe}
 use Rattle.records.specs.declared.Plant.{Plant}
@@ -41,7 +42,7 @@ use Rattle.report.proofs.Lists.{numbered, never-some, standing-all, standing-at
 
 -- Everything that stands was accepted.
 pub record Accepted (s : Standing) : Type 0 where
-  pub grid : GridSound (s .grid)
+  pub grid : GridSound (gridOf (s .grid))
   pub plant : (n : ℕ) (p : Plant) → s .plant n ≡ some p → PlantFacts n p
   pub source : (n : ℕ) (e : SourceEntry) → s .source n ≡ some e → SourceFacts n e
 
@@ -59,18 +60,18 @@ energy-over e = unit-above-zero
 
 -- The figure by its option and its loss.
 module _ (s : Standing) (h : Accepted s) (n : ℕ) (e : SourceEntry) (at : s .source n ≡ some e) (x : Chosen) (T : ℕ)
-    (hc : chosen (direction (e .side)) (s .grid) (captiveAt (direction (e .side)) (plantsOf (inputOfStanding s))) (consumption comparesFactor (sourcesOf (inputOfStanding s))) (e .supply)
+    (hc : chosen (direction (e .side)) (gridOf (s .grid)) (captiveAt (direction (e .side)) (plantsOf (inputOfStanding s))) (consumption comparesFactor (sourcesOf (inputOfStanding s))) (e .supply)
     ≡ given x)
     (hT : lossOf (direction (e .side)) (consumption comparesLoss (sourcesOf (inputOfStanding s))) (e .loss) ≡ given T) where
   abbrev F : ℕ
   F = x .factor
 
   abbrev exactF : Ratio
-  exactF = exactFactorOf (s .grid) (siteOf (plantsOf (inputOfStanding s))) (x .choice)
+  exactF = exactFactorOf (gridOf (s .grid)) (siteOf (plantsOf (inputOfStanding s))) (x .choice)
 
   factor : FactorSound (direction (e .side)) F exactF
   factor =
-      chosen-sound (direction (e .side)) (s .grid) (siteOf (plantsOf (inputOfStanding s))) (consumption comparesFactor (sourcesOf (inputOfStanding s))) (h .grid)
+      chosen-sound (direction (e .side)) (gridOf (s .grid)) (siteOf (plantsOf (inputOfStanding s))) (consumption comparesFactor (sourcesOf (inputOfStanding s))) (h .grid)
       (site-sound (s .plant) (λ k p q. h .plant k p q .lines)) (e .supply) x hc
 
   loss : T ≤ 5000
@@ -103,7 +104,7 @@ pub source-safe : (s : Standing) → Accepted s → (n : ℕ) (e : SourceEntry) 
 unfolding sourceFigure
 source-safe s h n e at f q =
     let dir = direction (e .side) in
-    let a = then-given (chosen dir (s .grid) (captiveAt dir (plantsOf (inputOfStanding s))) (consumption comparesFactor (sourcesOf (inputOfStanding s))) (e .supply)) _ q in
+    let a = then-given (chosen dir (gridOf (s .grid)) (captiveAt dir (plantsOf (inputOfStanding s))) (consumption comparesFactor (sourcesOf (inputOfStanding s))) (e .supply)) _ q in
     let b = then-given (lossOf (direction (e .side)) (consumption comparesLoss (sourcesOf (inputOfStanding s))) (e .loss)) _ (a .2) in
     subst (λ (g : Figure). FiguredSafe s (figuredAt n e g)) (given-is (b .2)) (option-safe s h n e at (a .0) (b .0) (a .1) (b .1))
 

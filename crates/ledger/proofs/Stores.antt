@@ -13,7 +13,9 @@ use lib.Seq.{set-getD}
 use borrow.Author.Tests.{leb-true}
 use Rattle.rounding.specs.Outcome.{Outcome, refused, given, refuseUnless}
 use Rattle.emissions.specs.declared.GridEntry.{GridEntry}
-use Rattle.records.specs.Judging.{gridJudged, plantJudged, sourceJudged, isThere, dropJudged, whereGiven, answerOf}
+use Rattle.emissions.specs.declared.EnteredGrid.{EnteredGrid}
+use Rattle.emissions.specs.Grid.{gridJudged}
+use Rattle.records.specs.Judging.{plantJudged, sourceJudged, isThere, dropJudged, whereGiven, answerOf}
 use Rattle.records.specs.Records.{noPlant, noSource, gridRecord, plantRecord, sourceRecord, heldPlant, heldSource}
 use Rattle.records.specs.declared.Plant.{Plant}
 use Rattle.records.specs.declared.SourceEntry.{SourceEntry}
@@ -96,7 +98,7 @@ module _ (l : Ledger) where
   unfolding step
   enter-grid-stores g = go (gridJudged g)
     where
-      go : (o : Outcome GridEntry) → whereGiven o (λ a. withGrid l (gridRecord a)) l ≡ withGrid l (whereGiven o gridRecord (l .grid))
+      go : (o : Outcome EnteredGrid) → whereGiven o (λ a. withGrid l (gridRecord a)) l ≡ withGrid l (whereGiven o gridRecord (l .grid))
       go (refused n) = refl
       go (given a) = refl
 

@@ -10,7 +10,7 @@ use Rattle.emissions.specs.declared.Side.{Side}
 use Rattle.emissions.specs.declared.Side.the-variants.{Project, Leakage, Baseline}
 use Rattle.records.specs.Judging.{metersOf}
 use Rattle.report.specs.Report.{sourcesOf, plantsOf, siteOf, Figured, Figures, declined, figured, figuresFrom, ofSide}
-use Rattle.ledger.specs.Standing.{Standing, inputOfStanding}
+use Rattle.ledger.specs.Standing.{Standing, gridOf, inputOfStanding}
 use Rattle.records.specs.declared.SourceEntry.{SourceEntry}
 
 -- The exact energy e of the source under a number.
@@ -27,7 +27,7 @@ figuredAt n e f = record { number = n; side = e .side; figure = f }
 unfoldable pub exactFigure : Standing → Figured → Ratio
 exactFigure s f =
     exactGrams (exactEnergyOf (s .source (f .number))) (f .figure .loss)
-    (exactFactorOf (s .grid) (siteOf (plantsOf (inputOfStanding s))) (f .figure .choice))
+    (exactFactorOf (gridOf (s .grid)) (siteOf (plantsOf (inputOfStanding s))) (f .figure .choice))
 
 -- "its gap is the grams between the two".
 unfoldable pub gap : Standing → Figured → Ratio

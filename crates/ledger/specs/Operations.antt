@@ -1,7 +1,8 @@
 -- The operations on the ledger's own records: what each leaves and answers. The contracts of the code equal these.
 use Prim.Native.Nat.{ℕ}
 use lib.ListN.{set, replicate}
-use Rattle.records.specs.Judging.{lastPlant, lastSource, gridJudged, plantJudged, sourceJudged, isThere, dropJudged, whereGiven}
+use Rattle.emissions.specs.Grid.{gridJudged}
+use Rattle.records.specs.Judging.{lastPlant, lastSource, plantJudged, sourceJudged, isThere, dropJudged, whereGiven}
 use Rattle.records.specs.Records.{noGrid, noPlant, noSource, gridRecord, plantRecord, sourceRecord}
 use Rattle.report.specs.Report.{ReportInput, Reply, inputOfRecords, checkedReportOf}
 use Rattle.ledger.specs.Standing.{Call, enterGrid, enterPlant, enterSource, dropPlant, dropSource, report, answer}

@@ -2,7 +2,8 @@
 -- kept of it, whatever the answer. What is kept and what is answered are as the contracts there say, and a report as `report_of` says.
 use Prim.Native.Nat.{ℕ, _%_}
 use lib.ListN.{getD}
-use Rattle.records.specs.Judging.{lastPlant, lastSource, gridJudged, plantJudged, sourceJudged, dropJudged, whereGiven, answerOf}
+use Rattle.emissions.specs.Grid.{gridJudged}
+use Rattle.records.specs.Judging.{lastPlant, lastSource, plantJudged, sourceJudged, dropJudged, whereGiven, answerOf}
 use Rattle.records.specs.Records.{noPlant, noSource, gridRecord, plantRecord, sourceRecord}
 use Rattle.records.specs.declared.PlantRecord.{PlantRecord}
 use Rattle.records.specs.declared.SourceRecord.{SourceRecord}

@@ -6,10 +6,11 @@ use mathlib.Core.Option.{Option, none, some}
 use lib.Dec.{eqb}
 use Rattle.metering.specs.Energy.{roundedAdding, roundedTaking}
 use Rattle.emissions.specs.Factor.{direction}
+use Rattle.emissions.specs.Grid.{enteredGrid, gridJudged}
 use Rattle.emissions.specs.declared.GridEntry.{GridEntry}
 use Rattle.emissions.specs.declared.Grid.{Grid}
 use Rattle.emissions.specs.declared.Grid.the-variants.{Absent, Entered}
-use Rattle.records.specs.Judging.{lastPlant, lastSource, gridJudged, plantJudged, metersOf, kept, sourceJudged, isThere, dropJudged, whereGiven}
+use Rattle.records.specs.Judging.{lastPlant, lastSource, plantJudged, metersOf, kept, sourceJudged, isThere, dropJudged, whereGiven}
 use Rattle.report.specs.Report.{ReportInput, Reply, acknowledged, reportOf}
 use Rattle.records.specs.declared.Plant.{Plant}
 use Rattle.records.specs.declared.SourceEntry.{SourceEntry}
@@ -25,15 +26,15 @@ pub data Call : Type 0 where
   dropSource : ℕ → Call
   report : Call
 
--- "plants and sources are numbered apart, and the grid has its one place".
+-- "plants and sources are numbered apart, and the grid has its one place". Each place holds what was entered.
 pub record Standing : Type 0 where
-  pub grid : Grid
+  pub grid : Option GridEntry
   pub plant : ℕ → Option Plant
   pub source : ℕ → Option SourceEntry
 
 -- "At first nothing stands."
 abbrev pub nothing : Standing
-nothing = record { grid = Absent; plant = λ n. none; source = λ n. none }
+nothing = record { grid = none; plant = λ n. none; source = λ n. none }
 
 -- The place n with v in it; every other place as before.
 abbrev pub put : {A : Type 0} → (ℕ → Option A) → ℕ → Option A → ℕ → Option A
@@ -42,7 +43,7 @@ put place n v k = cond (eqb k n) v (place k)
 -- "An entry that its rules do not refuse then stands under its number among its own kind, in place of an older one there .. A drop that its
 -- rules do not refuse takes away what stands there. A refused call or a report alters nothing."
 unfoldable pub after : Standing → Call → Standing
-after s (enterGrid g) = whereGiven (gridJudged g) (λ a. record { grid = Entered g; plant = s .plant; source = s .source }) s
+after s (enterGrid g) = whereGiven (gridJudged g) (λ a. record { grid = some g; plant = s .plant; source = s .source }) s
 after s (enterPlant n p) = whereGiven (plantJudged n p) (λ a. record { grid = s .grid; plant = put (s .plant) n (some p); source = s .source }) s
 after s (enterSource n e) = whereGiven (sourceJudged n e) (λ a. record { grid = s .grid; plant = s .plant; source = put (s .source) n (some e) }) s
 after s (dropPlant n) = whereGiven (dropJudged lastPlant (isThere (s .plant n)) n) (λ a. record { grid = s .grid; plant = put (s .plant) n none; source = s .source }) s
@@ -57,9 +58,14 @@ abbrev pub keptOf : Option SourceEntry → Option Source
 keptOf none = none
 keptOf (some e) = some (kept e (energyOf e))
 
+-- The grid that its entry leaves.
+abbrev pub gridOf : Option GridEntry → Grid
+gridOf none = Absent
+gridOf (some g) = Entered (enteredGrid g)
+
 -- What a report reads of what stands.
 abbrev pub inputOfStanding : Standing → ReportInput
-inputOfStanding s = record { grid = s .grid; plant = s .plant; source = λ n. keptOf (s .source n) }
+inputOfStanding s = record { grid = gridOf (s .grid); plant = s .plant; source = λ n. keptOf (s .source n) }
 
 -- The answer that the rules fix for each call.
 unfoldable pub answer : ReportInput → Call → Reply

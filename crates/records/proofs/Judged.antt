@@ -1,7 +1,7 @@
 -- How an entry and a drop are judged, test by test in the order of the code, and what an answer says of it. Assumes nothing.
 use Prim.Native.Nat.{ℕ, _+_, _≤_, _<_}
 use mathlib.Core.Path.{_≡_, refl, sym, ap, _∙_}
-use mathlib.Core.Bool.{Bool, true, false, not, Bool·beq, _&&_}
+use mathlib.Core.Bool.{Bool, true, false, _&&_}
 use mathlib.Core.List.{List}
 use native.Mathlib.Numerals.{add-one}
 use native.Mathlib.Omega.{arith}
@@ -22,13 +22,6 @@ use Rattle.records.specs.declared.Answer.the-variants.{Accepted, Refused
 use Rattle.records.specs.declared.Plant.{Plant}
 use Rattle.records.specs.declared.SourceEntry.{SourceEntry}
 use Rattle.records.specs.declared.Source.{Source}
-
--- ---- a test
-
--- What a value is that was tested to be false, and came out as t.
-pub tested : (r b : Bool) → r ≡ b → (t : Bool) → Bool·beq r false ≡ t → b ≡ not t
-tested true b e t q = sym e ∙ ap not q
-tested false b e t q = sym e ∙ ap not q
 
 -- ---- an answer
 

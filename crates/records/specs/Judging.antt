@@ -1,4 +1,4 @@
--- When an entry or a drop is refused, and with which number (document 01, "How each operation declines").
+-- When an entry of a plant or a source or a drop is refused, and with which number (document 01, "How each operation declines").
 use Prim.Native.Nat.{ℕ}
 use mathlib.Core.Bool.{Bool, true, false, _&&_}
 use mathlib.Core.List.{List, [], _∷_}
@@ -14,9 +14,8 @@ use Rattle.metering.specs.declared.EnergyJudged.{EnergyJudged}
 use Rattle.metering.specs.declared.EnergyJudged.the-variants as energyJudged
 use Rattle.fuel.specs.Fuel.{withinLimits}
 use Rattle.fuel.specs.declared.FuelLine.{FuelLine}
-use Rattle.emissions.specs.Factor.{factorLimit, direction}
+use Rattle.emissions.specs.Factor.{direction}
 use Rattle.emissions.specs.Figure.{lossLimit}
-use Rattle.emissions.specs.declared.GridEntry.{GridEntry}
 use Rattle.emissions.specs.declared.Supply.{Supply}
 use Rattle.emissions.specs.declared.Supply.the-variants.{Combined, GridDefault, Captive, CaptiveDefault, Either}
 use Rattle.emissions.specs.declared.Loss.{Loss}
@@ -37,11 +36,6 @@ lastSource = 31
 
 abbrev pub lastSite : ℕ
 lastSite = 3
-
--- ---- "Grid entry: 2 factor above 10,000,000."
-
-unfoldable pub gridJudged : GridEntry → Outcome GridEntry
-gridJudged g = refuseUnless 2 (leb (g .margin) factorLimit) (given g)
 
 -- ---- "Plant entry: 1 plant above 7 or site above 3. 2 more than 4 fuel lines, generation above 100,000,000 kWh, Q .. V .. or C .."
 

@@ -5,7 +5,7 @@ use mathlib.Core.List.{List}
 use mathlib.Core.Option.{Option, none, some}
 use lib.ListN.{getD, replicate}
 use Rattle.fuel.specs.Fuel.{noLine}
-use Rattle.emissions.specs.declared.GridEntry.{GridEntry}
+use Rattle.emissions.specs.declared.EnteredGrid.{EnteredGrid}
 use Rattle.emissions.specs.declared.Grid.the-variants.{Absent, Entered}
 use Rattle.emissions.specs.declared.Side.the-variants.{Project}
 use Rattle.emissions.specs.declared.Supply.the-variants.{Combined}
@@ -27,7 +27,7 @@ unfoldable pub noSource : SourceRecord
 noSource = record { stands = false; side = Project; supply = Combined; loss = Nothing; energy = 0 }
 
 -- The record of what stands.
-abbrev pub gridRecord : GridEntry → GridRecord
+abbrev pub gridRecord : EnteredGrid → GridRecord
 gridRecord g = record { grid = Entered g }
 
 abbrev pub plantRecord : Plant → PlantRecord

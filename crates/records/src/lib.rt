@@ -4,11 +4,13 @@
 ghost use mathlib.Core.Path.{_≡_};
 ghost use Prim.Native.Nat.{_≤_};
 ghost use lib.ListN.{take};
-ghost use Rattle.records.specs.Judging.{lastPlant, lastSource, linesLimit, answerOf, gridJudged, allWithinLimits, plantJudged, supplyWithinLimits, lossWithinLimits, isNothing, lossMatches, sourceJudged, dropJudged, whereGiven};
+ghost use Rattle.emissions.specs.Grid.{gridJudged};
+ghost use Rattle.records.specs.Judging.{lastPlant, lastSource, linesLimit, answerOf, allWithinLimits, plantJudged, supplyWithinLimits, lossWithinLimits, isNothing, lossMatches, sourceJudged, dropJudged, whereGiven};
 ghost use Rattle.records.specs.Records.{noGrid, noPlant, noSource, gridRecord, plantRecord, sourceRecord, heldPlant, heldSource};
 ghost use Rattle.records.specs.Steps.{sourceMeaning};
 use emissions::Grid;
 use emissions::GridEntry;
+use emissions::GridJudged;
 use emissions::Loss;
 use emissions::Side;
 use emissions::Supply;
@@ -287,15 +289,16 @@ impl GridRecord {
         ensures kept { λ r. ⌜ r .kept ≡ whereGiven (gridJudged entry) gridRecord self ⌝ }
         ensures answer { λ r. ⌜ r .answer ≡ answerOf (gridJudged entry) ⌝ }
     {
-        if entry.margin > Grid::FACTOR_LIMIT {
+        let judged = entry.judged();
+        let GridJudged::Accepted(grid) = judged else {
             return GridKept {
                 kept: self,
-                answer: Answer::Refused(2),
+                answer: Answer::Refused(judged.refusal()),
             };
-        }
+        };
         GridKept {
             kept: GridRecord {
-                grid: Grid::Entered(entry),
+                grid: Grid::Entered(grid),
             },
             answer: Answer::Accepted,
         }

@@ -20,20 +20,20 @@ use Rattle.emissions.specs.Figure.{energyWithLosses, gramsOf, figureOf}
 use Rattle.emissions.specs.Figure as figure
 use Rattle.emissions.specs.declared.Consumption.{Consumption}
 use Rattle.emissions.specs.declared.Grid.{Grid}
-use Rattle.emissions.specs.declared.Grid.the-variants.{Absent, Entered}
 use Rattle.emissions.specs.declared.Loss.{Loss}
 use Rattle.emissions.specs.declared.Loss.the-variants.{Nothing, Measured, Default20, Default3}
 use Rattle.emissions.specs.declared.Side.{Side}
 use Rattle.emissions.specs.declared.Supply.{Supply}
 use Rattle.emissions.specs.declared.Side.the-variants.{Project, Leakage, Baseline}
 use Rattle.rounding.proofs.Outcomes.{never-given, given-is, then-given}
-use Rattle.emissions.proofs.Factors.{GridSound}
+use Rattle.emissions.specs.Grid.{gridIntact}
+use Rattle.emissions.proofs.Grids.{intact-sound}
 use Rattle.emissions.proofs.Supplies.{factor-limit, at-site-limit}
 use Rattle.emissions.proofs.Losses.{LossSound, loss-limit}
 use Rattle.emissions.proofs.Figures.{energy-limit}
 use Rattle.report.specs.Report.{PlainPlant, ReportInput, Numbered, prependStanding, standing, selected, siteOf, captiveAt, plantsOf, intact, sourceFigure, Figured, Figures, declined, figured, withFigure, figuresFrom, ofSide, inputOfRecords}
 use Rattle.records.specs.Judging.{lossWithinLimits}
-use Rattle.report.specs.Intact.{gridIntact, plantIntact, allIntact, sourceIntact}
+use Rattle.report.specs.Intact.{plantIntact, allIntact, sourceIntact}
 use Rattle.records.specs.Records.{sourcePlace}
 use Rattle.report.specs.Steps.{sitePlants, totalsOf, factorAt, figureAt, parts, noSums, oneMore, withGrams, SideBounded, Bounded, sideSum, walkedOf}
 use Rattle.records.specs.declared.Source.{Source}
@@ -49,10 +49,6 @@ use Rattle.report.proofs.Lists.{numbered}
 use Rattle.report.proofs.Summing.{intact-at, source-fits}
 
 -- ---- the figure of a source
-
-pub grid-sound : (grid : Grid) → gridIntact grid ≡ true → GridSound grid
-grid-sound Absent h = tt
-grid-sound (Entered g) h = leb-true _ _ h
 
 -- A loss that number 2 does not refuse, and that is open, is at most one half.
 pub loss-sound : (l : Loss) → lossWithinLimits l ≡ true → LossSound l
@@ -75,7 +71,7 @@ grams-limit dir E T F e t f =
 pub plants-limit : (dir : Direction) (grid : Grid) (plants : List (Numbered PlainPlant)) (c : Consumption) (supply : Supply) (x : Chosen)
     → gridIntact grid ≡ true → chosen dir grid (captiveAt dir plants) c supply ≡ given x → x .factor ≤ factorLimit
 plants-limit dir grid plants c supply x h e =
-    factor-limit dir grid (captiveAt dir plants) c (grid-sound grid h) (λ S F k. at-site-limit dir (siteOf plants S) F k) supply x e
+    factor-limit dir grid (captiveAt dir plants) c (intact-sound grid h) (λ S F k. at-site-limit dir (siteOf plants S) F k) supply x e
 
 pub given-limit : (dir : Direction) (grid : Grid) (plants : List (Numbered PlainPlant)) (c : Consumption) (supply : Supply) (F : ℕ)
     → gridIntact grid ≡ true → factorAt dir grid plants c supply ≡ given F → F ≤ factorLimit

@@ -1,4 +1,4 @@
--- Whether what a ledger shows meets the limits that an accepted entry meets. A ledger that a list of calls leaves does.
+-- Whether the plants and sources that a ledger shows meet the limits that an accepted entry meets. A ledger that a list of calls leaves does.
 use Prim.Native.Nat.{ℕ, zero, suc}
 use mathlib.Core.Bool.{Bool, true, false, _&&_}
 use mathlib.Core.List.{List}
@@ -6,19 +6,12 @@ use mathlib.Core.Option.{Option, none, some}
 use lib.Dec.{leb}
 use Rattle.metering.specs.Reading.{limit}
 use Rattle.rounding.specs.Outcome.{Outcome, refused, given}
-use Rattle.emissions.specs.Factor.{factorLimit}
-use Rattle.emissions.specs.declared.Grid.{Grid}
-use Rattle.emissions.specs.declared.Grid.the-variants.{Absent, Entered}
 use Rattle.records.specs.Judging.{plantJudged, supplyWithinLimits, lossWithinLimits, lossMatches}
 use Rattle.records.specs.Records.{plantPlace, sourcePlace}
 use Rattle.records.specs.declared.Plant.{Plant}
 use Rattle.records.specs.declared.PlantRecord.{PlantRecord}
 use Rattle.records.specs.declared.Source.{Source}
 use Rattle.records.specs.declared.SourceRecord.{SourceRecord}
-
-abbrev pub gridIntact : Grid → Bool
-gridIntact Absent = true
-gridIntact (Entered g) = leb (g .margin) factorLimit
 
 abbrev pub isGiven : {A : Type 0} → Outcome A → Bool
 isGiven (refused n) = false

@@ -19,11 +19,12 @@ use Rattle.emissions.specs.declared.Side.{Side}
 use Rattle.emissions.specs.declared.Side.the-variants.{Project, Leakage, Baseline}
 use Rattle.emissions.specs.declared.Supply.{Supply}
 use Rattle.emissions.specs.declared.Supply.the-variants.{Combined, GridDefault, Captive, CaptiveDefault, Either}
+use Rattle.emissions.specs.Grid.{gridIntact}
 use Rattle.emissions.specs.declared.Grid.{Grid}
 use Rattle.emissions.specs.declared.Consumption.{Consumption}
 use Rattle.records.specs.Judging.{linesOf}
 use Rattle.records.specs.Records.{plantPlace, sourcePlace}
-use Rattle.report.specs.Intact.{gridIntact, plantIntact, sourceIntact, allIntact}
+use Rattle.report.specs.Intact.{plantIntact, sourceIntact, allIntact}
 use Rattle.records.specs.declared.Plant.{Plant}
 use Rattle.records.specs.declared.Source.{Source}
 use Rattle.records.specs.declared.PlantRecord.{PlantRecord}

@@ -10,7 +10,8 @@ ghost use Rattle.emissions.specs.Steps.{atNamed};
 ghost use Rattle.report.specs.Report.{comparesFactor, comparesLoss, plantMilligrams, siteOf, captiveAt, figuresFrom, sourcesOf, reportOf, checkedReportOf, inputOfRecords, plainOf};
 ghost use Rattle.records.specs.Judging.{lastPlant, lastSource, generationLimit};
 ghost use Rattle.records.specs.Records.{plantIn, sourceIn, sourcePlace};
-ghost use Rattle.report.specs.Intact.{plantIntact, sourceIntact, gridIntact, plantsIntact, sourcesIntact};
+ghost use Rattle.emissions.specs.Grid.{gridIntact};
+ghost use Rattle.report.specs.Intact.{plantIntact, sourceIntact, plantsIntact, sourcesIntact};
 ghost use mathlib.Core.Option.{some};
 ghost use Rattle.report.specs.Answers.{sideMeaning, reportMeaning};
 ghost use Rattle.report.specs.Steps.{sitePlants, share, summed, ConsumptionWithin, totalsWith, totalsOf, siteWith, figureAt, parts, figureMeaning, FigureWithin, figureRefusal, noSums, withGrams, Bounded, walkedOf, sideFrom, reductionOf, reportedOf, plantBound, figureBound, tonnesBound, SideBounded};
@@ -475,15 +476,6 @@ impl Sums {
 }
 
 // Whether the records are those that entries leave: within the limits of an accepted entry.
-fn grid_is_intact(grid: Grid) -> bool
-    ensures { λ r. ⌜ r ≡ gridIntact grid ⌝ }
-{
-    match grid {
-        Grid::Absent => true,
-        Grid::Entered(entry) => entry.margin <= Grid::FACTOR_LIMIT,
-    }
-}
-
 fn plant_is_intact(held: PlantRecord) -> bool
     ensures { λ r. ⌜ r ≡ plantIntact (plantIn held) ⌝ }
 {
@@ -568,7 +560,7 @@ pub fn report_of(
 ) -> Reported
     ensures { λ r. ⌜ reportMeaning r ≡ checkedReportOf (inputOfRecords grid plants sources) ⌝ }
 {
-    if grid_is_intact(grid) {
+    if grid.is_intact() {
         if plants_are_intact(plants) {
             if sources_are_intact(sources) {
                 return answer(grid, plants, sources);

@@ -1,16 +1,40 @@
--- `records::GridRecord::entered` meets its contract: the one test decides. Assumes nothing.
-use borrow.Author.Tests.{le-leb, lt-leb}
-use Rattle.records.specs.Judging.{gridJudged}
+-- `records::GridRecord::entered` meets its contract: what the entry was judged to leave, or its refusal. Assumes nothing.
+use borrow.Author.Needs.{needs}
+use mathlib.Core.Path.{_≡_, sym, ap, _∙_}
+use Rattle.rounding.specs.Outcome.{Outcome}
+use Rattle.emissions.specs.Answers.{gridMeaning, gridRefusal}
+use Rattle.emissions.specs.declared.EnteredGrid.{EnteredGrid}
+use Rattle.emissions.specs.declared.GridJudged.{GridJudged}
 use Rattle.records.proofs.GridRecord.entered.Statement.{statement}
 use Rattle.records.proofs.GridRecord.entered.Tie as tie
 
+-- The outcome of the case that was found.
+found : {o : Outcome EnteredGrid} {j k : GridJudged} → gridMeaning j ≡ o → j ≡ k → o ≡ gridMeaning k
+found h e = sym h ∙ ap gridMeaning e
+
+judged-requires : tie.Need-judged-requires
+judged-requires c κs = search needs
+
+enum-known-judged : tie.Need-enum-known-judged
+enum-known-judged c = search needs
+
+enum-told : tie.Need-enum-told
+enum-told c = search needs
+
+refusal-requires : tie.Need-refusal-requires
+refusal-requires c κs = search needs
+
 returns : tie.Need-returns
-unfolding gridJudged
-returns c = let e = lt-leb _ _ (c .if1 .taken) in (rw e, rw e)
+returns c =
+    let e = found (c .before .before .before .judged .ensures) (c .before .enum-told .given .1) in
+    (rw e, rw (e, c .refusal .ensures ∙ ap gridRefusal (c .before .enum-told .given .1)))
 
 returns-2 : tie.Need-returns-2
-unfolding gridJudged
-returns-2 c = let e = le-leb _ _ (c .if1 .left) in (rw e, rw e)
+returns-2 c =
+    let e = found (c .before .before .before .judged .ensures) (c .before .judged2 .given .1) in
+    (rw e, rw e)
 
 pub entered-spec : {M : Type 1} → statement M
-entered-spec = tie.close (tie.spec returns returns-2)
+entered-spec =
+    tie.close
+    (tie.spec judged-requires enum-known-judged enum-told refusal-requires returns returns-2)

@@ -10,7 +10,8 @@ use Rattle.metering.specs.declared.EnergyJudged.{EnergyJudged}
 use Rattle.metering.specs.declared.EnergyJudged.the-variants as energyJudged
 use Rattle.rounding.specs.Outcome.{refused, refuseUnless}
 use Rattle.records.specs.Judging.{sourceJudged}
-use Rattle.records.proofs.Judged.{tested, settled, summed, source-number, source-site, source-loss, source-sums}
+use Rattle.rounding.proofs.Tests.{tested}
+use Rattle.records.proofs.Judged.{settled, summed, source-number, source-site, source-loss, source-sums}
 use Rattle.records.proofs.SourceEntry.judged.Statement.{statement}
 use Rattle.records.proofs.SourceEntry.judged.Tie as tie
 
