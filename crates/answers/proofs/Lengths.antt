@@ -23,7 +23,7 @@ use Rattle.ledger.specs.Standing as call
 use Rattle.ledger.specs.Operations.{newLedger, reply}
 use Rattle.ledger.specs.declared.Ledger.{Ledger}
 use Rattle.ledger.proofs.Bounds.{SideWithin, ReportWithin, ReplyWithin, Plain, reply-plain, reply-within}
-use Rattle.forms.specs.Form.{Form, grid, plant, source, dropSource, dropPlant, report, openText}
+use Rattle.forms.specs.Form.{Form, grid, margins, plant, source, dropSource, dropPlant, report, openText}
 use Rattle.forms.specs.Reading.{lineForm}
 use Rattle.forms.specs.Calls.{callOf, lineCall}
 use Rattle.forms.proofs.Texts.{line-stands}
@@ -106,6 +106,7 @@ longest-plain damaged h = absurd h
 only-report : (f : Form) → callOf f ≡ call.report → f ≡ report
 unfolding callOf
 only-report (grid F kind) e = cc
+only-report (margins O B X Y kind) e = cc
 only-report (plant N S G lines) e = cc
 only-report (source N side supply loss meters) e = cc
 only-report (dropSource N) e = cc

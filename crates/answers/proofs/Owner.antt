@@ -4,7 +4,8 @@ use mathlib.Core.Path.{_≡_, refl, sym, ap, _∙_}
 use mathlib.Core.Bool.{Bool, true, false}
 use Prim.Native.Nat.{_%_}
 use lib.ListN.{getD}
-use Rattle.records.specs.Judging.{gridJudged, whereGiven, answerOf}
+use Rattle.emissions.specs.Grid.{gridJudged}
+use Rattle.records.specs.Judging.{whereGiven, answerOf}
 use Rattle.records.specs.Records.{noPlant, noSource, gridRecord}
 use Rattle.records.specs.declared.Answer.{Answer}
 use Rattle.records.specs.declared.GridRecord.{GridRecord}

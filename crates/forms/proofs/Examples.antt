@@ -1,4 +1,4 @@
--- Lines of document 01 and their like, computed. Assumes nothing.
+-- Lines of documents 01 and 02 and their like, computed. Assumes nothing.
 use Prim.Native.Nat.{ℕ}
 use Prim.Native.String.{String}
 use mathlib.Core.Path.{_≡_, refl}
@@ -11,16 +11,19 @@ use Rattle.text.specs.Register.{registerAt}
 use Rattle.text.specs.Word.{bytes}
 use Rattle.text.specs.Template.{pieceIn, numbersIn, templateIn}
 use Rattle.metering.specs.declared.Sign.the-variants.{Plus, Minus}
-use Rattle.emissions.specs.declared.GridKind.the-variants.{Thermal}
+use Rattle.emissions.specs.declared.CombinedMargin.the-variants.{Mean}
+use Rattle.emissions.specs.declared.GridKind.the-variants.{Thermal, Hydro}
 use Rattle.emissions.specs.declared.Side.the-variants.{Project, Leakage, Baseline}
 use Rattle.emissions.specs.declared.Supply.the-variants.{Combined, Captive, CaptiveDefault}
 use Rattle.emissions.specs.declared.Loss.the-variants.{Nothing, Default20}
-use Rattle.forms.specs.Form.{whole, single, allText, Form, grid, plant, source, dropSource, dropPlant, report}
-use Rattle.forms.specs.Reading.{oneOf, manyWithin, kinds, sides, supplies, losses, meters, fuels, gridIn, plantIn, sourceIn, others, openingIn, isClosing, formIn, lineForm}
+use Rattle.ledger.specs.Standing.{enterGrid}
+use Rattle.forms.specs.Form.{whole, single, allText, Form, grid, margins, plant, source, dropSource, dropPlant, report}
+use Rattle.forms.specs.Reading.{oneOf, manyWithin, kinds, sides, supplies, losses, meters, fuels, gridIn, marginsIn, plantIn, sourceIn, others, openingIn, isClosing, formIn, lineForm}
+use Rattle.forms.specs.Calls.{callOf}
 
 -- A line, opened so that it computes.
 unfoldable pub read : String → Option Form
-unfolding lineForm formIn isClosing openingIn others sourceIn plantIn gridIn fuels meters losses supplies sides kinds manyWithin oneOf templateIn numbersIn pieceIn decimalAt registerAt isDecimal leadingDigits digitValue valueAfter
+unfolding lineForm formIn isClosing openingIn others sourceIn plantIn marginsIn gridIn fuels meters losses supplies sides kinds manyWithin oneOf templateIn numbersIn pieceIn decimalAt registerAt isDecimal leadingDigits digitValue valueAfter
 read line = lineForm (bytes line)
 
 -- The five lines of the listing.
@@ -31,6 +34,14 @@ pub listing : (read "(grid 812400 thermal)" ≡ some (grid 812400 Thermal))
     × (read "(report)" ≡ some report)
 unfolding read
 listing = (refl, refl, refl, refl, refl)
+
+-- "(grid margins O B X Y thermal|hydro): the two margins, then their weights": the entry of a line. The operating margin is O and its weight X,
+-- the build margin B and its weight Y.
+pub margins-entered : (read "(grid margins 1000001 500000 75 25 hydro)" ≡ some (margins 1000001 500000 75 25 Hydro))
+    × (callOf (margins 1000001 500000 75 25 Hydro)
+    ≡ enterGrid (record { margin = Mean (record { operating = 1000001; build = 500000; weights = record { operating = 75; build = 25 } }); kind = Hydro }))
+unfolding read callOf
+margins-entered = (refl, refl)
 
 -- "(drop source N), (drop plant N)": the number is as written, also where no entry can have it.
 pub drops : (read "(drop source 31)" ≡ some (dropSource 31)) × (read "(drop plant 999999999999999999)" ≡ some (dropPlant 999999999999999999))
@@ -45,8 +56,11 @@ pub any-count : (read "(plant 0 1 7000)" ≡ some (plant 0 1 7000 []))
 unfolding read
 any-count = (refl, refl, refl)
 
--- No form: two spaces, a zero before other digits, 19 digits, an upper-case register, a space at the end, the end missing, an empty line.
+-- No form: two spaces, also between the margins and their weights, a weight missing, a zero before other digits, 19 digits, an upper-case
+-- register, a space at the end, the end missing, an empty line.
 pub no-forms : (read "(grid  812400 thermal)" ≡ none)
+    × (read "(grid margins 5 7  50 50 thermal)" ≡ none)
+    × (read "(grid margins 5 7 100 thermal)" ≡ none)
     × (read "(grid 0812400 thermal)" ≡ none)
     × (read "(drop plant 1000000000000000000)" ≡ none)
     × (read "(source 0 project (combined) (none) (single + 3F800000 42f6e979))" ≡ none)
@@ -54,7 +68,7 @@ pub no-forms : (read "(grid  812400 thermal)" ≡ none)
     × (read "(report" ≡ none)
     × (read "" ≡ none)
 unfolding read
-no-forms = (refl, refl, refl, refl, refl, refl, refl)
+no-forms = (refl, refl, refl, refl, refl, refl, refl, refl, refl)
 
 -- "14 .. a line above 256 bytes without its LF": a form's text of 256 bytes, and one of a byte more.
 abbrev pub longText : String → List ℕ

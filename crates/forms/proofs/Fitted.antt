@@ -1,14 +1,14 @@
--- A number larger than its field is judged as the field's largest: each limit is below that. So the call in the box's fields is answered
+-- A number larger than its field is judged as the field's largest: each limit is below that, and the sum of the weights. So the call in the box's fields is answered
 -- as the call of the form, and leaves the same ledger. Assumes nothing.
-use Prim.Native.Nat.{ℕ, zero, suc, _≤_, _<_}
+use Prim.Native.Nat.{ℕ, zero, suc, _+_, _≤_, _<_}
 use mathlib.Core.Path.{_≡_, refl, sym, ap, _∙_}
 use mathlib.Core.Bool.{Bool, true, false, cond, _&&_}
 use mathlib.Core.List.{List, [], _∷_, _++_, map}
 use mathlib.Core.Option.{Option}
 use native.Mathlib.Omega.{arith}
-use lib.Dec.{leb}
+use lib.Dec.{leb, eqb}
 use lib.ListN.{length, take, replicate}
-use borrow.Author.Tests.{leb-true, leb-false, le-leb, lt-leb}
+use borrow.Author.Tests.{leb-true, leb-false, le-leb, lt-leb, eqb-true, ne-eqb}
 use Rattle.rounding.proofs.Tests.{and-both}
 use Rattle.metering.specs.Energy.{judgedReadings, judgedMeters}
 use Rattle.metering.specs.declared.Meter.{Meter}
@@ -18,12 +18,15 @@ use Rattle.fuel.specs.Fuel.{noLine, withinLimits}
 use Rattle.fuel.specs.declared.FuelLine.{FuelLine}
 use Rattle.rounding.specs.Outcome.{Outcome, refused, given, refuseUnless}
 use Rattle.emissions.specs.Factor.{factorLimit, direction}
+use Rattle.emissions.specs.Grid.{marginWithinLimits, weightsFull, enteredGrid, gridJudged}
+use Rattle.emissions.specs.declared.CombinedMargin.{CombinedMargin}
+use Rattle.emissions.specs.declared.CombinedMargin.the-variants.{Stated, Mean}
 use Rattle.emissions.specs.declared.GridEntry.{GridEntry}
 use Rattle.emissions.specs.declared.Supply.{Supply}
 use Rattle.emissions.specs.declared.Supply.the-variants.{Combined, GridDefault, Captive, CaptiveDefault, Either}
 use Rattle.emissions.specs.declared.Loss.{Loss}
 use Rattle.emissions.specs.declared.Loss.the-variants.{Nothing, Measured, Default20, Default3}
-use Rattle.records.specs.Judging.{gridJudged, sourceJudged, isThere, dropJudged, linesOf, allWithinLimits, plantJudged, supplyWithinLimits, lossWithinLimits, whereGiven}
+use Rattle.records.specs.Judging.{sourceJudged, isThere, dropJudged, linesOf, allWithinLimits, plantJudged, supplyWithinLimits, lossWithinLimits, whereGiven}
 use Rattle.records.specs.Records.{noPlant, noSource, plantRecord, sourceRecord}
 use Rattle.ledger.specs.Standing.{answer}
 use Rattle.report.specs.Report.{acknowledged}
@@ -32,8 +35,8 @@ use Rattle.records.specs.declared.Plant.{Plant}
 use Rattle.records.specs.declared.SourceEntry.{SourceEntry}
 use Rattle.ledger.specs.declared.Ledger.{Ledger}
 use Rattle.ledger.proofs.Entries.{plant-facts, source-facts, drop-facts}
-use Rattle.forms.specs.Form.{Form, grid, plant, source, dropSource, dropPlant, report}
-use Rattle.forms.specs.Calls.{fourOf, callOf, atMost, byteField, fittedSupply, fittedLoss, fittedLine, fittedPlant, fittedSource, fitted}
+use Rattle.forms.specs.Form.{Form, grid, margins, plant, source, dropSource, dropPlant, report}
+use Rattle.forms.specs.Calls.{fourOf, callOf, atMost, byteField, fittedMargin, fittedGrid, fittedSupply, fittedLoss, fittedLine, fittedPlant, fittedSource, fitted}
 
 -- ---- one number
 
@@ -56,6 +59,15 @@ module _ (L : ℕ) where
       go : (t : Bool) → leb n L ≡ t → leb k (cond t n L) ≡ leb k n
       go true e = refl
       go false e = let m = leb-false n L e in le-leb k L h ∙ sym (le-leb k n (omega arith))
+
+  -- A sum below the field's largest number tells the same of two numbers and of their fields.
+  same-sum : (k m n : ℕ) → k < L → eqb (atMost L m + atMost L n) k ≡ eqb (m + n) k
+  same-sum k m n h = go (leb m L) (leb n L) refl refl
+    where
+      go : (a b : Bool) → leb m L ≡ a → leb n L ≡ b → eqb (cond a m L + cond b n L) k ≡ eqb (m + n) k
+      go true true e f = refl
+      go true false e f = let o = leb-false n L f in ne-eqb (m + L) k (omega arith) ∙ sym (ne-eqb (m + n) k (omega arith))
+      go false b e f = let o = leb-false m L e in ne-eqb (L + cond b n L) k (omega arith) ∙ sym (ne-eqb (m + n) k (omega arith))
 
   -- A number that its limit lets through is unchanged.
   unchanged : (k n : ℕ) → k ≤ L → leb n k ≡ true → atMost L n ≡ n
@@ -82,11 +94,34 @@ stored-same {A} {S} {o'} {o} f' f s e same = ap (λ (x : Outcome A). whereGiven 
 
 -- ---- the grid
 
-grid-same : (g : GridEntry) → gridJudged (record { margin = atMost 4294967295 (g .margin); kind = g .kind }) ≡ gridJudged g
+limits-same : (m : CombinedMargin) → marginWithinLimits (fittedMargin m) ≡ marginWithinLimits m
+limits-same (Stated F) = same-limit 4294967295 factorLimit F (omega arith)
+limits-same (Mean m) =
+    rw (same-limit 4294967295 factorLimit (m .operating) (omega arith), same-limit 4294967295 factorLimit (m .build) (omega arith))
+
+weights-same : (m : CombinedMargin) → weightsFull (fittedMargin m) ≡ weightsFull m
+weights-same (Stated F) = refl
+weights-same (Mean m) = same-sum 255 100 (m .weights .operating) (m .weights .build) (omega arith)
+
+margin-unchanged : (m : CombinedMargin) → marginWithinLimits m ≡ true → weightsFull m ≡ true → fittedMargin m ≡ m
+margin-unchanged (Stated F) e f = ap Stated (unchanged 4294967295 factorLimit F (omega arith) e)
+margin-unchanged (Mean m) e f =
+    let p = and-both (leb (m .operating) factorLimit) _ e in
+    let s = eqb-true (m .weights .operating + m .weights .build) 100 f in
+    rw (
+      unchanged 4294967295 factorLimit (m .operating) (omega arith) (p .0),
+      unchanged 4294967295 factorLimit (m .build) (omega arith) (p .1),
+      within 255 (m .weights .operating) (omega arith),
+      within 255 (m .weights .build) (omega arith),
+    )
+
+grid-same : (g : GridEntry) → gridJudged (fittedGrid g) ≡ gridJudged g
 unfolding gridJudged
 grid-same g =
-    test-same 2 _ (leb (g .margin) factorLimit) _ (given g) (same-limit 4294967295 factorLimit (g .margin) (omega arith))
-    (λ e. rw (unchanged 4294967295 factorLimit (g .margin) (omega arith) e))
+    test-same 2 _ (marginWithinLimits (g .margin)) _ _ (limits-same (g .margin))
+    (λ e.
+    test-same 15 _ (weightsFull (g .margin)) _ (given (enteredGrid g)) (weights-same (g .margin))
+    (λ f. rw (margin-unchanged (g .margin) e f)))
 
 -- ---- a plant
 
@@ -234,7 +269,8 @@ drop-same last place n h =
 
 pub fitted-replies : (l : Ledger) (f : Form) → reply l (fitted (callOf f)) ≡ reply l (callOf f)
 unfolding reply fitted callOf answer
-fitted-replies l (grid F kind) = ap acknowledged (grid-same (record { margin = F; kind = kind }))
+fitted-replies l (grid F kind) = ap acknowledged (grid-same _)
+fitted-replies l (margins O B X Y kind) = ap acknowledged (grid-same _)
 fitted-replies l (plant N S G lines) = ap acknowledged (plant-same N S G lines)
 fitted-replies l (source N side supply loss meters) = ap acknowledged (source-same N _)
 fitted-replies l (dropSource N) = ap acknowledged (drop-same 31 (recorded l .source) N (omega arith))
@@ -243,7 +279,8 @@ fitted-replies l report = refl
 
 pub fitted-steps : (l : Ledger) (f : Form) → step l (fitted (callOf f)) ≡ step l (callOf f)
 unfolding step fitted callOf
-fitted-steps l (grid F kind) = stored-same _ _ l (grid-same (record { margin = F; kind = kind })) (λ a e. refl)
+fitted-steps l (grid F kind) = stored-same _ _ l (grid-same _) (λ a e. refl)
+fitted-steps l (margins O B X Y kind) = stored-same _ _ l (grid-same _) (λ a e. refl)
 fitted-steps l (plant N S G lines) =
     stored-same _ (λ a. withPlant l N (plantRecord a)) l (plant-same N S G lines)
     (λ a e. rw (within 255 N (omega (arith, plant-facts N _ a e .1 .number))))

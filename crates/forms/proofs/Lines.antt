@@ -12,6 +12,7 @@ use lib.Seq.{getD-drop}
 use borrow.Author.Tests.{le-leb, lt-leb}
 use Rattle.text.specs.Template.{Read, onRead, mapRead}
 use Rattle.metering.specs.declared.Meter.{Meter}
+use Rattle.emissions.specs.declared.GridEntry.{GridEntry}
 use Rattle.emissions.specs.declared.Side.{Side}
 use Rattle.emissions.specs.declared.Supply.{Supply}
 use Rattle.emissions.specs.declared.Loss.{Loss}
@@ -83,6 +84,12 @@ pub source-call : (N : ℕ) (side : Side) (meters : List Meter) (count : ℕ) (r
     (some (record { value = enterSource N (record { side = side; supply = u; loss = l; meters = meters; count = count }); rest = rest }))
     (some (record { value = enterSource N (record { side = side; supply = v; loss = m; meters = meters; count = count }); rest = rest }))
 source-call N side meters count rest u v l m e q = rw (e, q)
+
+-- A grid entry that was read is what the line holds.
+pub grid-read : (s : List ℕ) (a : Option (Read Form)) (f : Form) (g : GridEntry) (next : ℕ) {l : Line} → l ≡ lineOf (some (enterGrid g)) next
+    → a ≡ found s f next → fittedCall f ≡ enterGrid g → (openingMeaning s l ≡ mapRead fittedCall a) × (l ≡ lineOf (callIn l) (l .next))
+unfolding lineOf
+grid-read s a f g next e q h = rw (e, q, h) (refl, refl)
 
 -- Where nothing was read, the line is no form.
 pub nothing-read : (s : List ℕ) (a : Option (Read Form)) {l : Line} → l ≡ lineOf none 0 → a ≡ none

@@ -10,7 +10,7 @@ use lib.Dec.{leb}
 use lib.ListN.{length}
 use borrow.Author.Tests.{eqb-true, leb-true, le-leb}
 use Rattle.text.specs.Digits.{leadingDigits, digitValue}
-use Rattle.text.specs.Word.{bytes}
+use Rattle.text.specs.Decimal.{isDecimal, decimalAt}
 use Rattle.text.specs.Template.{filled, placesOf, Read, mapRead, pieceIn, numbersIn, numbersOf, templateIn}
 use Rattle.text.proofs.Templates.{Parted, template-reads-back}
 use Rattle.fuel.specs.declared.FuelLine.{FuelLine}
@@ -18,9 +18,9 @@ use Rattle.emissions.specs.declared.GridKind.{GridKind}
 use Rattle.emissions.specs.declared.Side.{Side}
 use Rattle.emissions.specs.declared.Supply.{Supply}
 use Rattle.emissions.specs.declared.Loss.{Loss}
-use Rattle.forms.specs.Templates.{gridOpening, plantOpening, sourceOpening, closing}
-use Rattle.forms.specs.Form.{MeterForm, Form, grid, plant, source, dropSource, dropPlant, report, kindText, sideText, supplyText, lossText, allText, meterText, fuelText, openText, formText, Decimal, Writable, lineLimit, LineStands}
-use Rattle.forms.specs.Reading.{oneOf, kinds, sides, supplies, losses, meters, fuels, manyOf, gridIn, withLines, plantIn, withMeters, sourceIn, others, openingIn, isClosing, formIn, lineForm}
+use Rattle.forms.specs.Templates.{gridOpening, marginsOpening, weightsPart, plantOpening, sourceOpening, closing}
+use Rattle.forms.specs.Form.{MeterForm, Form, grid, margins, plant, source, dropSource, dropPlant, report, kindText, sideText, supplyText, lossText, allText, meterText, fuelText, openText, formText, Decimal, Writable, lineLimit, LineStands}
+use Rattle.forms.specs.Reading.{oneOf, kinds, sides, supplies, losses, meters, fuels, manyOf, gridIn, marginsIn, withLines, plantIn, withMeters, sourceIn, others, openingIn, isClosing, formIn, lineForm}
 use Rattle.forms.proofs.Tables.{Stands, either-read, then-read, else-read, on-read, on-map, on-template, one-stands, this-row, later-row}
 use Rattle.forms.proofs.Parts.{kind-stands, side-stands, supply-stands, loss-stands, meters-stand, fuels-stand, kind-reads-back, side-reads-back, supply-reads-back, loss-reads-back, meters-read-back, fuels-read-back, fuels-parted}
 
@@ -37,6 +37,17 @@ module _ (t : List ℕ) (r : Read Form) where
       on-map (Opens t) (grid (n .value .first)) (oneOf kinds (n .rest)) r e2 λ k e3.
       on-template (λ n. Opens t (record { value = grid (n .first) (k .value); rest = k .rest })) gridOpening t n e1 λ F h text.
       record { stands = rw (append-assoc, ← (kind-stands (n .rest) k e3 .stands)) text; writable = h }
+
+  margins-stands : marginsIn t ≡ some r → Opens t r
+  unfolding marginsIn openText placesOf
+  margins-stands e =
+      on-read (templateIn marginsOpening t) _ r e λ m e1 e.
+      on-read (templateIn weightsPart (m .rest)) _ r e λ w e2 e.
+      on-map (Opens t) _ (oneOf kinds (w .rest)) r e λ k e3.
+      on-template (λ n. Opens t (record { value = margins (n .first) (n .second) (w .value .first) (w .value .second) (k .value); rest = k .rest }))
+      marginsOpening t m e1 λ O h B i text.
+      on-template (λ n. Opens t (record { value = margins O B (n .first) (n .second) (k .value); rest = k .rest })) weightsPart (m .rest) w e2 λ X j Y l next.
+      record { stands = simp (append-assoc, ← (kind-stands (w .rest) k e3 .stands), ← next) text; writable = (h, i, j, l) }
 
   plant-stands : plantIn t ≡ some r → Opens t r
   unfolding plantIn openText placesOf
@@ -74,6 +85,7 @@ module _ (t : List ℕ) (r : Read Form) where
   unfolding openingIn
   opening-stands e =
       either-read (gridIn t) _ r e grid-stands λ e.
+      either-read (marginsIn t) _ r e margins-stands λ e.
       either-read (plantIn t) _ r e plant-stands λ e.
       either-read (sourceIn t) _ r e source-stands other-stands
 
@@ -94,6 +106,14 @@ module _ (N : ℕ) (h : Decimal N) (rest : List ℕ) where
   unfolding placesOf filled Parted leadingDigits digitValue
   grid-opens = template-reads-back gridOpening (N ∷ []) rest (h, tt) (refl, tt)
 
+  margins-opens : (B : ℕ) → Decimal B → OpensWith marginsOpening (N ∷ B ∷ []) rest
+  unfolding placesOf filled Parted leadingDigits digitValue
+  margins-opens B i = template-reads-back marginsOpening (N ∷ B ∷ []) rest (h, (i, tt)) (refl, (refl, tt))
+
+  weights-open : (Y : ℕ) → Decimal Y → OpensWith weightsPart (N ∷ Y ∷ []) rest
+  unfolding placesOf filled Parted leadingDigits digitValue
+  weights-open Y i = template-reads-back weightsPart (N ∷ Y ∷ []) rest (h, (i, tt)) (refl, (refl, tt))
+
   source-opens : OpensWith sourceOpening (N ∷ []) rest
   unfolding placesOf filled Parted leadingDigits digitValue
   source-opens = template-reads-back sourceOpening (N ∷ []) rest (h, tt) (refl, tt)
@@ -110,6 +130,18 @@ Opened f = some (record { value = f; rest = closing })
 grid-reads-back : (F : ℕ) (kind : GridKind) → Writable (grid F kind) → gridIn (formText (grid F kind)) ≡ Opened (grid F kind)
 unfolding gridIn openText
 grid-reads-back F kind h = rw (append-assoc, grid-opens F h (kindText kind ++ closing), kind-reads-back closing kind)
+
+margins-reads-back : (O B X Y : ℕ) (kind : GridKind) → Writable (margins O B X Y kind)
+    → marginsIn (formText (margins O B X Y kind)) ≡ Opened (margins O B X Y kind)
+unfolding marginsIn openText
+margins-reads-back O B X Y kind h =
+    let rest = kindText kind ++ closing in
+    simp append-assoc
+    (rw (
+      margins-opens O (h .0) (filled weightsPart (X ∷ Y ∷ []) ++ rest) B (h .1),
+      weights-open X (h .2) rest Y (h .3),
+      kind-reads-back closing kind,
+    ))
 
 plant-reads-back : (N S G : ℕ) (lines : List FuelLine) → Writable (plant N S G lines)
     → plantIn (formText (plant N S G lines)) ≡ Opened (plant N S G lines)
@@ -134,16 +166,18 @@ source-reads-back N side supply loss meters h =
     ))
 
 opening-reads-back : (f : Form) → Writable f → openingIn (formText f) ≡ Opened f
-unfolding openingIn gridIn plantIn sourceIn others openText templateIn numbersIn pieceIn placesOf filled Parted leadingDigits digitValue
+unfolding openingIn gridIn marginsIn plantIn sourceIn others openText templateIn numbersIn pieceIn decimalAt isDecimal placesOf filled Parted leadingDigits digitValue
 opening-reads-back (grid F kind) h = then-read _ (grid-reads-back F kind h)
-opening-reads-back (plant N S G lines) h = else-read refl (then-read _ (plant-reads-back N S G lines h))
-opening-reads-back (source N side supply loss meters) h = else-read refl (else-read refl (then-read _ (source-reads-back N side supply loss meters h)))
+opening-reads-back (margins O B X Y kind) h = else-read refl (then-read _ (margins-reads-back O B X Y kind h))
+opening-reads-back (plant N S G lines) h = else-read refl (else-read refl (then-read _ (plant-reads-back N S G lines h)))
+opening-reads-back (source N side supply loss meters) h =
+    else-read refl (else-read refl (else-read refl (then-read _ (source-reads-back N side supply loss meters h))))
 opening-reads-back (dropSource N) h =
-    else-read refl (else-read refl (else-read refl (this-row _ _ (N ∷ []) closing (h, tt) (refl, tt))))
+    else-read refl (else-read refl (else-read refl (else-read refl (this-row _ _ (N ∷ []) closing (h, tt) (refl, tt)))))
 opening-reads-back (dropPlant N) h =
-    else-read refl (else-read refl (else-read refl (later-row _ _ _ refl (this-row _ _ (N ∷ []) closing (h, tt) (refl, tt)))))
+    else-read refl (else-read refl (else-read refl (else-read refl (later-row _ _ _ refl (this-row _ _ (N ∷ []) closing (h, tt) (refl, tt))))))
 opening-reads-back report h =
-    else-read refl (else-read refl (else-read refl (later-row _ _ _ refl (later-row _ _ _ refl (this-row _ _ [] closing tt tt)))))
+    else-read refl (else-read refl (else-read refl (else-read refl (later-row _ _ _ refl (later-row _ _ _ refl (this-row _ _ [] closing tt tt))))))
 
 -- ---- the two ways
 

@@ -13,6 +13,9 @@ use Rattle.metering.specs.declared.Interval.the-variants.{Counts, Singles}
 use Rattle.metering.specs.declared.Meter.{Meter}
 use Rattle.fuel.specs.Fuel.{noLine}
 use Rattle.fuel.specs.declared.FuelLine.{FuelLine}
+use Rattle.emissions.specs.declared.Margins.{Margins}
+use Rattle.emissions.specs.declared.CombinedMargin.{CombinedMargin}
+use Rattle.emissions.specs.declared.CombinedMargin.the-variants.{Stated, Mean}
 use Rattle.emissions.specs.declared.GridEntry.{GridEntry}
 use Rattle.emissions.specs.declared.GridKind.the-variants.{Thermal}
 use Rattle.emissions.specs.declared.Side.the-variants.{Project}
@@ -24,7 +27,7 @@ use Rattle.ledger.specs.Standing.{Call, enterGrid, enterPlant, enterSource}
 use Rattle.ledger.specs.Standing as call
 use Rattle.records.specs.declared.Plant.{Plant}
 use Rattle.records.specs.declared.SourceEntry.{SourceEntry}
-use Rattle.forms.specs.Form.{MeterForm, whole, single, Form, grid, plant, source, dropSource, dropPlant, report}
+use Rattle.forms.specs.Form.{MeterForm, whole, single, Form, grid, margins, plant, source, dropSource, dropPlant, report}
 use Rattle.forms.specs.Reading.{lineForm}
 use Rattle.forms.specs.declared.Kind.{Kind}
 use Rattle.forms.specs.declared.Kind.the-variants.{NoForm, GridForm, PlantForm, SourceForm, ReportForm}
@@ -40,7 +43,9 @@ unfoldable pub fourOf : {A : Type 0} → A → List A → List A
 fourOf empty parts = take 4 (parts ++ replicate 4 empty)
 
 unfoldable pub callOf : Form → Call
-callOf (grid F kind) = enterGrid (record { margin = F; kind = kind })
+callOf (grid F kind) = enterGrid (record { margin = Stated F; kind = kind })
+callOf (margins O B X Y kind) =
+    enterGrid (record { margin = Mean (record { operating = O; build = B; weights = record { operating = X; build = Y } }); kind = kind })
 callOf (plant N S G lines) = enterPlant N (record { site = S; generation = G; lines = fourOf noLine lines; count = length lines })
 callOf (source N side supply loss meters) =
     enterSource N (record { side = side; supply = supply; loss = loss; meters = fourOf noMeter (map meterOf meters); count = length meters })
@@ -62,6 +67,21 @@ byteField n = atMost 255 n
 
 abbrev pub wordField : ℕ → ℕ
 wordField n = atMost 4294967295 n
+
+abbrev pub fittedMargins : Margins → Margins
+fittedMargins m =
+    record {
+      operating = wordField (m .operating);
+      build = wordField (m .build);
+      weights = record { operating = byteField (m .weights .operating); build = byteField (m .weights .build) };
+    }
+
+abbrev pub fittedMargin : CombinedMargin → CombinedMargin
+fittedMargin (Stated F) = Stated (wordField F)
+fittedMargin (Mean m) = Mean (fittedMargins m)
+
+abbrev pub fittedGrid : GridEntry → GridEntry
+fittedGrid g = record { margin = fittedMargin (g .margin); kind = g .kind }
 
 abbrev pub fittedSupply : Supply → Supply
 fittedSupply Combined = Combined
@@ -88,7 +108,7 @@ fittedSource e =
     record { side = e .side; supply = fittedSupply (e .supply); loss = fittedLoss (e .loss); meters = e .meters; count = byteField (e .count) }
 
 unfoldable pub fitted : Call → Call
-fitted (enterGrid g) = enterGrid (record { margin = wordField (g .margin); kind = g .kind })
+fitted (enterGrid g) = enterGrid (fittedGrid g)
 fitted (enterPlant n p) = enterPlant (byteField n) (fittedPlant p)
 fitted (enterSource n e) = enterSource (byteField n) (fittedSource e)
 fitted (call.dropPlant n) = call.dropPlant (byteField n)
@@ -103,7 +123,7 @@ fittedCall f = fitted (callOf f)
 
 -- The entries that do not count are the empty ones.
 abbrev pub emptyGrid : GridEntry
-emptyGrid = record { margin = 0; kind = Thermal }
+emptyGrid = record { margin = Stated 0; kind = Thermal }
 
 abbrev pub emptyPlant : Plant
 emptyPlant = record { site = 0; generation = 0; lines = replicate 4 noLine; count = 0 }

@@ -1,4 +1,4 @@
--- The forms of a line, as written, and their text (document 01, "The text the program tally reads": "Forms").
+-- The forms of a line, as written, and their text (document 01, "The text the program tally reads": "Forms"; document 02, wish 1).
 use Prim.Native.Nat.{ℕ, _^_, _<_, _≤_}
 use mathlib.Core.Path.{_≡_}
 use mathlib.Core.List.{List, [], _∷_, _++_}
@@ -15,16 +15,18 @@ use Rattle.emissions.specs.declared.Supply.{Supply}
 use Rattle.emissions.specs.declared.Supply.the-variants.{Combined, GridDefault, Captive, CaptiveDefault, Either}
 use Rattle.emissions.specs.declared.Loss.{Loss}
 use Rattle.emissions.specs.declared.Loss.the-variants.{Nothing, Measured, Default20, Default3}
-use Rattle.forms.specs.Templates.{gridOpening, plantOpening, sourceOpening, dropSourceOpening, dropPlantOpening, reportOpening, closing, thermalWord, hydroWord, projectWord, leakageWord, baselineWord, combinedPart, gridDefaultPart, captivePart, captiveDefaultPart, eitherPart, lossPart, default20Part, default3Part, nonePart, wholePlusPart, wholeMinusPart, singlePlusPart, singleMinusPart, fuelPart}
+use Rattle.forms.specs.Templates.{gridOpening, marginsOpening, weightsPart, plantOpening, sourceOpening, dropSourceOpening, dropPlantOpening, reportOpening, closing, thermalWord, hydroWord, projectWord, leakageWord, baselineWord, combinedPart, gridDefaultPart, captivePart, captiveDefaultPart, eitherPart, lossPart, default20Part, default3Part, nonePart, wholePlusPart, wholeMinusPart, singlePlusPart, singleMinusPart, fuelPart}
 
 -- "meters (whole sign first last), (single sign first last)"; a register is its 32 bits.
 pub data MeterForm : Type 0 where
   whole : Sign → ℕ → ℕ → MeterForm
   single : Sign → ℕ → ℕ → MeterForm
 
--- "(grid F thermal|hydro), (plant N S G (fuel Q V C)..) .., (source N side (supply) (loss) meters), (drop source N), (drop plant N), (report)".
+-- "(grid F thermal|hydro), (plant N S G (fuel Q V C)..) .., (source N side (supply) (loss) meters), (drop source N), (drop plant N), (report)"; and
+-- "(grid margins O B X Y thermal|hydro): the two margins, then their weights".
 pub data Form : Type 0 where
   grid : ℕ → GridKind → Form
+  margins : ℕ → ℕ → ℕ → ℕ → GridKind → Form
   plant : ℕ → ℕ → ℕ → List FuelLine → Form
   source : ℕ → Side → Supply → Loss → List MeterForm → Form
   dropSource : ℕ → Form
@@ -76,6 +78,7 @@ allText text (a ∷ rest) = text a ++ allText text rest
 
 unfoldable pub openText : Form → List ℕ
 openText (grid F kind) = filled gridOpening (F ∷ []) ++ kindText kind
+openText (margins O B X Y kind) = filled marginsOpening (O ∷ B ∷ []) ++ (filled weightsPart (X ∷ Y ∷ []) ++ kindText kind)
 openText (plant N S G lines) = filled plantOpening (N ∷ S ∷ G ∷ []) ++ allText fuelText lines
 openText (source N side supply loss meters) =
     filled sourceOpening (N ∷ []) ++ (sideText side ++ (supplyText supply ++ (lossText loss ++ allText meterText meters)))
@@ -117,6 +120,7 @@ MeterWritable (single sign first last) = (first < 2 ^ 32) × (last < 2 ^ 32)
 
 abbrev pub Writable : Form → Type 0
 Writable (grid F kind) = Decimal F
+Writable (margins O B X Y kind) = Decimal O × Decimal B × Decimal X × Decimal Y
 Writable (plant N S G lines) = Decimal N × Decimal S × Decimal G × All FuelWritable lines
 Writable (source N side supply loss meters) = Decimal N × SupplyWritable supply × LossWritable loss × All MeterWritable meters
 Writable (dropSource N) = Decimal N

@@ -6,7 +6,6 @@ use mathlib.Core.List.{List, [], _∷_}
 use mathlib.Core.Option.{Option, none, some}
 use lib.Dec.{leb, eqb}
 use lib.ListN.{length}
-use Rattle.text.specs.Word.{bytes}
 use Rattle.text.specs.Template.{Read, onRead, mapRead, templateIn}
 use Rattle.text.specs.declared.Numbers.{Numbers}
 use Rattle.metering.specs.declared.Sign.the-variants.{Plus, Minus}
@@ -19,8 +18,8 @@ use Rattle.emissions.specs.declared.Supply.{Supply}
 use Rattle.emissions.specs.declared.Supply.the-variants.{Combined, GridDefault, Captive, CaptiveDefault, Either}
 use Rattle.emissions.specs.declared.Loss.{Loss}
 use Rattle.emissions.specs.declared.Loss.the-variants.{Nothing, Measured, Default20, Default3}
-use Rattle.forms.specs.Templates.{gridOpening, plantOpening, sourceOpening, dropSourceOpening, dropPlantOpening, reportOpening, thermalWord, hydroWord, projectWord, leakageWord, baselineWord, combinedPart, gridDefaultPart, captivePart, captiveDefaultPart, eitherPart, lossPart, default20Part, default3Part, nonePart, wholePlusPart, wholeMinusPart, singlePlusPart, singleMinusPart, fuelPart}
-use Rattle.forms.specs.Form.{lineLimit, MeterForm, whole, single, Form, grid, plant, source, dropSource, dropPlant, report}
+use Rattle.forms.specs.Templates.{gridOpening, marginsOpening, weightsPart, plantOpening, sourceOpening, dropSourceOpening, dropPlantOpening, reportOpening, thermalWord, hydroWord, projectWord, leakageWord, baselineWord, combinedPart, gridDefaultPart, captivePart, captiveDefaultPart, eitherPart, lossPart, default20Part, default3Part, nonePart, wholePlusPart, wholeMinusPart, singlePlusPart, singleMinusPart, fuelPart}
+use Rattle.forms.specs.Form.{lineLimit, MeterForm, whole, single, Form, grid, margins, plant, source, dropSource, dropPlant, report}
 
 -- ---- one of several templates, and any count of parts
 
@@ -94,6 +93,12 @@ fuels = row fuelPart (λ n. record { quantity = n .first; ncv = n .second; facto
 unfoldable pub gridIn : List ℕ → Option (Read Form)
 gridIn t = onRead (templateIn gridOpening t) (λ n t1. mapRead (grid (n .first)) (oneOf kinds t1))
 
+unfoldable pub marginsIn : List ℕ → Option (Read Form)
+marginsIn t =
+    onRead (templateIn marginsOpening t) (λ m t1.
+    onRead (templateIn weightsPart t1) (λ w t2.
+    mapRead (margins (m .first) (m .second) (w .first) (w .second)) (oneOf kinds t2)))
+
 abbrev pub withLines : Numbers → Read (List FuelLine) → Read Form
 withLines n r = record { value = plant (n .first) (n .second) (n .third) (r .value); rest = r .rest }
 
@@ -119,7 +124,7 @@ others =
     ∷ []
 
 unfoldable pub openingIn : List ℕ → Option (Read Form)
-openingIn t = orElse (gridIn t) (orElse (plantIn t) (orElse (sourceIn t) (oneOf others t)))
+openingIn t = orElse (gridIn t) (orElse (marginsIn t) (orElse (plantIn t) (orElse (sourceIn t) (oneOf others t))))
 
 -- ---- a line
 

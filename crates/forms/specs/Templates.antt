@@ -10,6 +10,14 @@ use Rattle.text.specs.Word.{bytes}
 abbrev pub gridOpening : List ℕ
 gridOpening = bytes "(grid # "
 
+-- "(grid margins O B X Y thermal|hydro): the two margins, then their weights" (document 02, wish 1). A template has at most three places, so that
+-- the margins are one and the weights another.
+abbrev pub marginsOpening : List ℕ
+marginsOpening = bytes "(grid margins # # "
+
+abbrev pub weightsPart : List ℕ
+weightsPart = bytes "# # "
+
 abbrev pub plantOpening : List ℕ
 plantOpening = bytes "(plant # # #"
 

@@ -4,13 +4,14 @@ mod list;
 mod part;
 
 ghost use mathlib.Core.Path.{_≡_};
-ghost use mathlib.Core.Option.{none, Option·map};
+ghost use mathlib.Core.Option.{none, some, Option·map};
 ghost use Prim.Native.Nat.{_-_};
 ghost use lib.ListN.{length, drop};
 ghost use Rattle.text.specs.Template.{mapRead};
 ghost use Rattle.forms.specs.Reading.{
   oneOf,
   gridIn,
+  marginsIn,
   plantIn,
   sourceIn,
   others,
@@ -20,6 +21,7 @@ ghost use Rattle.forms.specs.Reading.{
 };
 ghost use Rattle.forms.specs.Calls.{fittedCall, plainLine, lineOf};
 ghost use Rattle.records.specs.Judging.{isThere};
+ghost use Rattle.ledger.specs.Standing.{enterGrid};
 ghost use Rattle.forms.specs.Steps.{callIn, openingMeaning};
 use crate::list::read_fuels;
 use crate::list::read_meters;
@@ -33,11 +35,14 @@ use crate::part::read_loss;
 use crate::part::read_side;
 use crate::part::read_supply;
 use crate::part::word_field;
+use emissions::CombinedMargin;
 use emissions::GridEntry;
 use emissions::GridKind;
 use emissions::Loss;
+use emissions::Margins;
 use emissions::Side;
 use emissions::Supply;
+use emissions::Weights;
 use fuel::FuelLine;
 use metering::Meter;
 use records::Plant;
@@ -81,7 +86,7 @@ fn plain_line(kind: Kind, drops: bool, number: u8, next: usize) -> Line
         drops,
         number,
         grid: GridEntry {
-            margin: 0,
+            margin: CombinedMargin::Stated(0),
             kind: GridKind::Thermal,
         },
         plant: Plant {
@@ -107,6 +112,24 @@ fn no_form() -> Line
     plain_line(Kind::NoForm, false, 0, 0)
 }
 
+// The line that holds a grid entry.
+fn grid_line(grid: GridEntry, next: usize) -> Line
+    ensures { λ r. ⌜ r ≡ lineOf (some (enterGrid grid)) next ⌝ }
+{
+    let empty = plain_line(Kind::GridForm, false, 0, next);
+    let plant = empty.plant;
+    let source = empty.source;
+    Line {
+        kind: Kind::GridForm,
+        drops: false,
+        number: 0,
+        grid,
+        plant,
+        source,
+        next,
+    }
+}
+
 fn read_grid(line: &[u8]) -> Line
     ensures call { λ r. ⌜ openingMeaning (now (line .entry)) r ≡ mapRead fittedCall (gridIn (now (line .entry))) ⌝ }
     ensures parts { λ r. ⌜ r ≡ lineOf (callIn r) (r .next) ⌝ }
@@ -117,22 +140,36 @@ fn read_grid(line: &[u8]) -> Line
     let KindRead::Found(kind, next) = read_kind(line, at) else {
         return no_form();
     };
-    let empty = plain_line(Kind::GridForm, false, 0, next);
-    let plant = empty.plant;
-    let source = empty.source;
-    let grid = GridEntry {
-        margin: word_field(numbers.first),
-        kind,
+    let margin = CombinedMargin::Stated(word_field(numbers.first));
+    let grid = GridEntry { margin, kind };
+    grid_line(grid, next)
+}
+
+fn read_margins(line: &[u8]) -> Line
+    ensures call { λ r. ⌜ openingMeaning (now (line .entry)) r ≡ mapRead fittedCall (marginsIn (now (line .entry))) ⌝ }
+    ensures parts { λ r. ⌜ r ≡ lineOf (callIn r) (r .next) ⌝ }
+{
+    let Match::Match(figures, at) = text::read_template(line, 0, b"(grid margins # # ") else {
+        return no_form();
     };
-    Line {
-        kind: Kind::GridForm,
-        drops: false,
-        number: 0,
-        grid,
-        plant,
-        source,
-        next,
-    }
+    let Match::Match(percents, after_percents) = text::read_template(line, at, b"# # ") else {
+        return no_form();
+    };
+    let KindRead::Found(kind, next) = read_kind(line, after_percents) else {
+        return no_form();
+    };
+    let weights = Weights {
+        operating: byte_field(percents.first),
+        build: byte_field(percents.second),
+    };
+    let margins = Margins {
+        operating: word_field(figures.first),
+        build: word_field(figures.second),
+        weights,
+    };
+    let margin = CombinedMargin::Mean(margins);
+    let grid = GridEntry { margin, kind };
+    grid_line(grid, next)
 }
 
 fn read_plant(line: &[u8]) -> Line
@@ -245,6 +282,10 @@ fn read_opening(line: &[u8]) -> Line
     let grid = read_grid(line);
     if is_form(grid) {
         return grid;
+    }
+    let margins = read_margins(line);
+    if is_form(margins) {
+        return margins;
     }
     let plant = read_plant(line);
     if is_form(plant) {

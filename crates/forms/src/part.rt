@@ -64,8 +64,8 @@ const LARGEST_LOSS: u64 = u16::MAX as u64;
 
 const LARGEST_WORD: u64 = u32::MAX as u64;
 
-// A number, or the largest of its field where it is larger. That is above every limit, so that an entry
-// refuses it alike.
+// A number, or the largest of its field where it is larger. That is above every limit, and above what weights
+// sum to, so that an entry refuses it alike.
 fn at_most(number: u64, limit: u64) -> u64
     ensures { λ r. ⌜ r ≡ atMost limit number ⌝ }
 {

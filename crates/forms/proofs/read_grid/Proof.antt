@@ -3,10 +3,11 @@ use borrow.Author.Needs.{needs}
 use mathlib.Core.Path.{sym, ap, _∙_}
 use denote.Ref.{now}
 use Rattle.text.proofs.Templates.{template-read}
+use Rattle.forms.specs.Form.{grid}
 use Rattle.forms.specs.Reading.{gridIn}
-use Rattle.forms.specs.Calls.{callOf, fitted, plainLine, lineOf}
+use Rattle.forms.specs.Calls.{callOf, fitted}
 use Rattle.forms.specs.Steps.{kindMeaning}
-use Rattle.forms.proofs.Lines.{nothing-read}
+use Rattle.forms.proofs.Lines.{grid-read, nothing-read}
 use Rattle.forms.proofs.read_grid.Statement.{statement}
 use Rattle.forms.proofs.read_grid.Tie as tie
 
@@ -53,23 +54,24 @@ returns-2 c =
       sym (c .before .before .before .read-kind .ensures) ∙ ap (kindMeaning s) (c .before .enum-told2 .given .1),
     ))
 
-plain-line-requires : tie.Need-plain-line-requires
-plain-line-requires c κs = search needs
-
 word-field-requires : tie.Need-word-field-requires
 word-field-requires c κs = search needs
 
+grid-line-requires : tie.Need-grid-line-requires
+grid-line-requires c κs = search needs
+
 returns-3 : tie.Need-returns-3
-unfolding gridIn callOf fitted lineOf plainLine
+unfolding gridIn callOf fitted
 returns-3 c =
-    let s = now (c .before .before .before .before .before .before .before .before .before .before .before .before .before .before .args .line) in (
-      rw (
-        c .word-field .ensures,
-        template-read _ s 0 (c .before .before .before .before .before .before .before .before .before .before .before .read-template .ensures) (c .before .before .before .before .before .before .before .before .before .numbers .given .1),
-        sym (c .before .before .before .before .before .before .before .read-kind .ensures) ∙ ap (kindMeaning s) (c .before .before .before .before .before .kind .given .1),
-      ),
-      rw (c .before .before .before .plain-line .ensures),
-    )
+    let s = now (c .before .before .before .before .before .before .before .before .before .before .before .before .args .line) in
+    let n = c .before .before .before .before .before .before .before .numbers .given .0 .0 in
+    let k = c .before .before .before .kind .given .0 in
+    grid-read s (gridIn s) (grid (n .first) (k .0)) _ (k .1 .0) (c .grid-line .ensures)
+    (rw (
+      template-read _ s 0 (c .before .before .before .before .before .before .before .before .before .read-template .ensures) (c .before .before .before .before .before .before .before .numbers .given .1),
+      sym (c .before .before .before .before .before .read-kind .ensures) ∙ ap (kindMeaning s) (c .before .before .before .kind .given .1),
+    ))
+    (rw (c .before .word-field .ensures))
 
 pub read-grid-spec : {M : Type 1} → statement M
 read-grid-spec =
@@ -86,6 +88,6 @@ read-grid-spec =
     enum-told-2
     no-form-requires-2
     returns-2
-    plain-line-requires
     word-field-requires
+    grid-line-requires
     returns-3)
