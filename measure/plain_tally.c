@@ -1,7 +1,7 @@
-// The program tally in plain C, as a programmer would write it by hand from document 01: no proofs. The
-// speed of tally is measured beside it, and its branches guide the fuzzer. It is no third opinion on
-// the rules: its author had read tests/reference.py, so the two may share a misreading.
-// Comments in quotation marks are the paper's sentences; a bare number is a refusal.
+// The program tally in plain C, as a programmer would write it by hand from document 01 and wish 1 of
+// document 02: no proofs. The speed of tally is measured beside it, and its branches guide the fuzzer. It
+// is no third opinion on the rules: its author had read tests/reference.py, so the two may share a
+// misreading. Comments in quotation marks are the papers' sentences; a bare number is a refusal.
 #include <stdbool.h>
 #include <stddef.h>
 #include <stdint.h>
@@ -15,7 +15,7 @@ enum { OK = 0, NO_FORM = 14 };
 enum { SOURCES = 32, PLANTS = 8, SITES = 4, METERS = 4, FUEL_LINES = 4 };
 
 static const u64 WATT_HOURS = 100000000000; // the limit of a reading and of E
-static const u64 FACTOR = 10000000;         // the limit of F, in mg/kWh
+static const u64 FACTOR = 10000000;         // the limit of F and of a margin, in mg/kWh
 static const u64 SIDE_GRAMS = 1000000000000000;
 
 enum side { PROJECT, LEAKAGE, BASELINE, SIDES };
@@ -25,7 +25,10 @@ enum loss { NONE, MEASURED, DEFAULT20, DEFAULT3 };
 struct meter { bool single, minus; u64 first, last; };
 struct source { bool stands; enum side side; enum supply supply; u64 site; enum loss loss; u64 measured, energy; };
 struct plant { bool stands; u64 site, generation, milligrams[2]; }; // of its lines, rounded down and up
-struct ledger { bool has_grid, hydro; u64 margin; struct plant plants[PLANTS]; struct source sources[SOURCES]; };
+struct margin { u64 factor, weight; }; // in mg/kWh and in percent
+// As entered, by a stated factor or by two margins, and the combined margin rounded down and up.
+struct grid { bool stands, hydro, by_margins; u64 stated; struct margin operating, build; u64 combined[2]; };
+struct ledger { struct grid grid; struct plant plants[PLANTS]; struct source sources[SOURCES]; };
 
 // ---- The output: an input line has at least one byte and its answer at most "refused 14\n", save for a
 // report, whose line has at least 8 bytes and whose answer has fewer than 144.
@@ -107,11 +110,25 @@ static int judge_meters(const struct meter *meters, u64 count, bool up, int64_t 
 
 // ---- Entries and drops
 
-static int enter_grid(struct ledger *l, u64 margin, bool hydro) {
-    if (margin > FACTOR) return 2;
-    l->has_grid = true;
-    l->hydro = hydro;
-    l->margin = margin;
+static int enter_stated(struct ledger *l, u64 factor, bool hydro) {
+    if (factor > FACTOR) return 2;
+    l->grid = (struct grid){.stands = true, .hydro = hydro, .stated = factor, .combined = {factor, factor}};
+    return OK;
+}
+
+// "the factor is their weighted mean": "The grid record keeps the mean rounded both ways".
+static struct grid with_mean(struct grid g) {
+    u64 sum = g.operating.factor * g.operating.weight + g.build.factor * g.build.weight;
+    g.combined[0] = divided(sum, 100, false);
+    g.combined[1] = divided(sum, 100, true);
+    return g;
+}
+
+// "A margin above its limit is refused 2, then weights that don't sum to 100 are refused 15."
+static int enter_margins(struct ledger *l, struct grid g) {
+    if (g.operating.factor > FACTOR || g.build.factor > FACTOR) return 2;
+    if (g.operating.weight + g.build.weight != 100) return 15;
+    l->grid = with_mean(g);
     return OK;
 }
 
@@ -207,18 +224,19 @@ static int default_factor(const struct sums *sums, bool hydro, u64 *factor) {
 static int factor_of(const struct ledger *l, const struct source *s, const struct sums *margins,
                      const struct site sites[SITES], u64 *factor) {
     bool up = rounds_up(s->side);
-    if (on_grid(s->supply) && !l->has_grid) return 8;
+    u64 combined = l->grid.combined[up];
+    if (on_grid(s->supply) && !l->grid.stands) return 8;
     if (s->supply == COMBINED) {
-        *factor = l->margin;
+        *factor = combined;
         return OK;
     }
-    if (s->supply == GRID_DEFAULT) return default_factor(margins, l->hydro, factor);
+    if (s->supply == GRID_DEFAULT) return default_factor(margins, l->grid.hydro, factor);
     if (s->supply == CAPTIVE_DEFAULT) {
         *factor = up ? 1300000 : 400000;
         return OK;
     }
     int refused = captive_factor(&sites[s->site], up, factor);
-    if (refused == OK && s->supply == EITHER && (up ? l->margin > *factor : l->margin < *factor)) *factor = l->margin;
+    if (refused == OK && s->supply == EITHER && (up ? combined > *factor : combined < *factor)) *factor = combined;
     return refused;
 }
 
@@ -362,12 +380,26 @@ static bool read_meter(struct text *t, struct meter *m) {
 // The last bracket of a form, with nothing after it.
 static bool ends(struct text *t) { return skip(t, ")") && t->at == t->end; }
 
+// The mark and the end of a grid's form.
+static bool read_mark(struct text *t, bool *hydro) {
+    *hydro = skip(t, " hydro");
+    return (*hydro || skip(t, " thermal")) && ends(t);
+}
+
+// "the two margins, then their weights"
+static int margins_line(struct ledger *l, struct text *t) {
+    struct grid g = {.stands = true, .by_margins = true};
+    if (!read_number(t, &g.operating.factor) || !skip(t, " ") || !read_number(t, &g.build.factor)) return NO_FORM;
+    if (!skip(t, " ") || !read_number(t, &g.operating.weight)) return NO_FORM;
+    if (!skip(t, " ") || !read_number(t, &g.build.weight)) return NO_FORM;
+    return read_mark(t, &g.hydro) ? enter_margins(l, g) : NO_FORM;
+}
+
 static int grid_line(struct ledger *l, struct text *t) {
-    u64 margin;
-    if (!read_number(t, &margin)) return NO_FORM;
-    bool hydro = skip(t, " hydro");
-    if (!hydro && !skip(t, " thermal")) return NO_FORM;
-    return ends(t) ? enter_grid(l, margin, hydro) : NO_FORM;
+    u64 factor;
+    bool hydro;
+    if (skip(t, "margins ")) return margins_line(l, t);
+    return read_number(t, &factor) && read_mark(t, &hydro) ? enter_stated(l, factor, hydro) : NO_FORM;
 }
 
 static int plant_line(struct ledger *l, struct text *t) {

@@ -116,8 +116,9 @@ STEPS = {
                    f'{shown(LOSSES_WH)} Wh', ('losses-conservative',)),
     'line': Step('a fuel line of a captive plant, to mg', AS_SIDE, f'{shown(LINE_MG)} mg',
                  ('line-conservative',)),
-    'factor': Step("F: entered, or a default, or the site's fuel lines in mg ÷ its generation in "
-                   'kWh', AS_SIDE, f'{shown(FACTOR_MG_PER_KWH)} mg/kWh', ('chosen-sound',)),
+    'factor': Step("F: entered, or the weighted mean of two margins, or a default, or the site's "
+                   'fuel lines in mg ÷ its generation in kWh', AS_SIDE,
+                   f'{shown(FACTOR_MG_PER_KWH)} mg/kWh', ('chosen-sound',)),
     'grams': Step(f'grams of a source = U × F ÷ {MILLION:,}', AS_SIDE,
                   f'{shown(GRAM)} + ({shown(LOSSES_WH)} × (F + {FACTOR_SLACK}) + '
                   f'{shown(FACTOR_MG_PER_KWH)} × U) ÷ {MILLION:,} g', ('figure-conservative',)),

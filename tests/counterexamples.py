@@ -59,6 +59,15 @@ def gap_by_energy() -> Case:
                 DEMAND_3._replace(energy_multiple=10), ('gap 0 by F and U, g',))
 
 
+def gap_by_mean() -> Case:
+    """At the limit of E, F is 1 for a mean of 0.01. No mean is further off than by 0.99, so
+    that 10 tenths would cover this rounding, and 9 do not."""
+    return Case('gap by a mean, 11 -> 9',
+                ['(grid margins 1 0 1 99 thermal)',
+                 f'(source 0 project (combined) (loss 5000) (whole + 0 {10**11}))'],
+                DEMAND_3._replace(energy_multiple=9), ('gap 0 by F and U, g',))
+
+
 def gap_by_weight() -> Case:
     return Case('gap, 200 -> 150 kg', one_source_on_32_lines(),
                 DEMAND_3._replace(gap_kilograms=150), ('gap 0 by weight, g',))
@@ -104,8 +113,8 @@ def side_by_tonnes() -> Case:
                 ('project, t', 'leakage, t', 'baseline, t'))
 
 
-CASES = (gap_by_factor, gap_by_energy, gap_by_weight, allowances, reduction_by_tonnes,
-         side_by_tonnes)
+CASES = (gap_by_factor, gap_by_energy, gap_by_mean, gap_by_weight, allowances,
+         reduction_by_tonnes, side_by_tonnes)
 
 
 def text(case: Case) -> bytes:

@@ -11,9 +11,11 @@ import random
 import re
 import sys
 from collections import Counter
+from itertools import product
 from pathlib import Path
 
 import counterexamples
+import margins
 import reference
 
 LINES = 60
@@ -30,6 +32,13 @@ SPECIAL_REGISTERS = (
     0x7F800001, 0x7FC00000, 0xFFC00000, 0x7FFFFFFF, 0xFFFFFFFF)
 # Few, so that P = B and P' = B' come up, and off by one too.
 EQUAL_ENERGIES = (0, 500, 1000, 1000, 1001)
+FACTOR_LIMIT = reference.FACTOR_LIMIT
+FIRST_WEIGHTS = (0, 1, 25, 33, 50, 50, 67, 75, 99, 100)
+# Weights that do not sum to 100, though some would in 8, 16 or 32 bits.
+UNFIT_WEIGHTS = ((0, 0), (50, 49), (49, 50), (50, 51), (99, 0), (101, 0), (0, 101), (100, 100),
+                 (255, 101), (256, 100), (206, 150), (0, 356), (356, 0), (65_636, 0),
+                 (65_586, 50), (2**32 + 50, 50), (LARGEST, 0), (LARGEST - 99, 200),
+                 (LARGEST, LARGEST))
 
 
 # Malformed lines: each takes a line and returns one that should not be a form,
@@ -63,6 +72,8 @@ DAMAGES = (
     lambda rng, line: replaced(rng, line, rb' [0-9]+', lambda m: b' 1' + 18 * b'0'),
     lambda rng, line: replaced(rng, line, rb' [0-9]+', lambda m: b' ' + 18 * b'9'),
     lambda rng, line: replaced(rng, line, rb' [0-9]+', lambda m: b' '),
+    lambda rng, line: replaced(rng, line, rb' [0-9]+', lambda m: b''),
+    lambda rng, line: replaced(rng, line, rb' [a-z]+\)', lambda m: b')'),
     lambda rng, line: replaced(rng, line, rb'[a-z]', bytes.upper),
     lambda rng, line: replaced(rng, line, rb'[a-z]+', lambda m: m[:-1]),
     lambda rng, line: replaced(rng, line, rb'[0-9a-f]{8}', lambda m: m[1:]),
@@ -80,6 +91,16 @@ DAMAGES = (
     lambda rng, line: b'',
     lambda rng, line: line + b' ' * 256,
 )
+
+
+def captive_factors(ledger: reference.Ledger) -> list[int]:
+    """Those that sources with either compare, or of any site where there is no such source;
+    one above the limit as the limit."""
+    compared = {(source.supply.site, reference.rounds_up(source.side))
+                for source in ledger.sources.values() if source.supply.name == 'either'}
+    return [min(reference.captive_factor(ledger, site, up), FACTOR_LIMIT)
+            for site, up in sorted(compared) or product(range(4), (False, True))
+            if reference.generation_at(ledger, site) >= 1_000]
 
 
 class Generator:
@@ -176,7 +197,24 @@ class Generator:
     # Calls
 
     def grid(self) -> str:
-        return f'(grid {self.number(10_000_000)} {self.rng.choice(("thermal", "hydro"))})'
+        entered = self.margins() if self.chance(0.6) else self.number(FACTOR_LIMIT)
+        return f'(grid {entered} {self.rng.choice(("thermal", "hydro"))})'
+
+    def margins(self) -> str:
+        """Half of them round a captive factor, which either compares their mean with."""
+        if self.chance(0.5):
+            near = self.rng.choice(captive_factors(self.ledger) or [self.number(FACTOR_LIMIT)])
+            pair = [max(near + self.rng.randint(-1, 1), 0) for _ in range(2)]
+        else:
+            pair = [self.number(FACTOR_LIMIT) for _ in range(2)]
+        return 'margins {} {} {} {}'.format(*pair, *self.weights(max(pair) > FACTOR_LIMIT))
+
+    def weights(self, beside_refused: bool) -> tuple[int, int]:
+        """Beside a margin that is refused 2, half of them would be refused 15."""
+        if self.chance(0.5 if beside_refused else 0.1):
+            return self.rng.choice(UNFIT_WEIGHTS)
+        first = self.rng.choice((*FIRST_WEIGHTS, self.rng.randint(0, 100)))
+        return first, 100 - first
 
     def fuel(self, generation: int) -> str:
         """Burnt for so many kWh, mostly at less than 10,000,000 mg/kWh."""
@@ -251,22 +289,24 @@ class Generator:
             answer = self.emit('(report)')
 
     def beginning(self):
-        """Mostly a grid and plants, without which few reports are given."""
-        if self.chance(0.8):
-            self.emit(self.grid())
+        """Mostly plants and a grid, without which few reports are given."""
         for site in range(4):
             if self.chance(0.8):
                 generation = self.rng.choice((1000, 1001, 7000, 10**8))
                 self.emit(self.plant_at(site, site, generation))
+        if self.chance(0.8):
+            self.emit(self.grid())
 
     def text(self, lines: int) -> bytes:
         self.beginning()
         calls = (self.grid, self.plant, self.source, self.drop, self.report)
         while len(self.lines) < lines:
-            call = self.rng.choices(calls, (1, 2, 9, 2, 2))[0]
+            call = self.rng.choices(calls, (2, 2, 9, 2, 2))[0]
             line = call()
             if line is not None:
                 self.emit(line)
+            if call == self.grid and self.chance(0.5):
+                self.report()
         self.report()
         return b'\n'.join(self.lines) + (b'' if self.chance(0.2) else b'\n')
 
@@ -328,7 +368,10 @@ def around(limit: int) -> list[int]:
 
 
 FIELDS = (
-    ('(grid {} hydro)', 10_000_000), ('(plant {} 0 0)', 7), ('(plant 0 {} 0)', 3),
+    ('(grid {} hydro)', 10_000_000), ('(grid margins {} 0 50 50 hydro)', 10_000_000),
+    ('(grid margins 0 {} 100 0 thermal)', 10_000_000), ('(grid margins 5 7 {} 60 hydro)', 40),
+    ('(grid margins 5 7 60 {} hydro)', 40), ('(grid margins 5 7 {} 0 thermal)', 100),
+    ('(plant {} 0 0)', 7), ('(plant 0 {} 0)', 3),
     ('(plant 0 0 {})', 100_000_000), ('(plant 0 0 0 (fuel {} 1 0))', 100_000_000),
     ('(plant 0 0 0 (fuel 0 {} 0))', 1), ('(plant 0 0 0 (fuel 0 {} 0))', 150_000),
     ('(plant 0 0 0 (fuel 0 1 0) (fuel 0 1 {}))', 200_000),
@@ -348,7 +391,7 @@ def limits() -> bytes:
 
 
 # Within every limit, and with a decimal in every field that a form has.
-NUMBERED = ('(grid 1000000 hydro)',
+NUMBERED = ('(grid 1000000 hydro)', '(grid margins 1000001 500000 40 60 thermal)',
             '(plant 7 3 1000 (fuel 1000 43000 7410) (fuel 2000 1000 999))',
             '(plant 0 0 5' + 4 * ' (fuel 0 1 0)' + ')',
             '(source 31 project (captive 3) (none) (whole + 1000 500000))',
@@ -395,6 +438,44 @@ def alone_at_zero() -> bytes:
             lines += [f'(source {n} {side} ({supply}) (whole + 0 {energy}))'
                       for n, energy in ((3, 0), (2, 0))] + ['(report)']
             lines += [f'(source 2 {side} ({supply}) (whole + 0 700001))', '(report)']
+    return joined(lines)
+
+
+def margins_in_lists() -> list[bytes]:
+    return [joined(margins.lines(name)) for name in margins.LISTS]
+
+
+def margins_and_weights() -> bytes:
+    """Each pair of margins with each pair of weights: 2, 15 or accepted, then a report
+    that shows what stands."""
+    lines = ['(source 0 project (combined) (loss 0) (whole + 0 1000000000))',
+             '(source 1 baseline (combined) (loss 0) (whole + 0 1000000000))']
+    pairs = product((0, 3, FACTOR_LIMIT - 1, FACTOR_LIMIT, FACTOR_LIMIT + 1), repeat=2)
+    fit = [(first, 100 - first) for first in FIRST_WEIGHTS[::3]]
+    for pair, weights in product(pairs, (*fit, *UNFIT_WEIGHTS[::2])):
+        lines += ['(grid margins {} {} {} {} hydro)'.format(*pair, *weights), '(report)']
+    return joined(lines)
+
+
+def means_by_captive() -> bytes:
+    """Means below, at and above a captive factor of 7 down and 8 up, and one of 7 both ways,
+    beside the mean itself; of each mg/kWh a report shows 1,000 g."""
+    lines = [f'(source {n} {side} ({supply}) (loss 0) (whole + 0 1000000000))'
+             for n, (side, supply) in enumerate(product(
+                 reference.SIDES, ('combined', 'either 0', 'either 1')))]
+    lines += ['(plant 0 0 1000 (fuel 7500 1 1000))', '(plant 1 1 1000 (fuel 7000 1 1000))']
+    for pair, first in product(product((5, 6, 7, 8, 9), repeat=2), (1, 50, 99)):
+        lines += ['(grid margins {} {} {} {} thermal)'.format(*pair, first, 100 - first),
+                  '(report)']
+    return joined(lines)
+
+
+def largest_means() -> bytes:
+    """A mean next to the factor's limit, at the limit of E and with the largest loss."""
+    lines = [f'(source {n} {side} (combined) (loss 5000) (whole + 0 100000000000))'
+             for n, side in enumerate(reference.SIDES)]
+    for first in range(101):
+        lines += [f'(grid margins 10000000 9999999 {first} {100 - first} hydro)', '(report)']
     return joined(lines)
 
 
@@ -494,7 +575,8 @@ def report_precedence() -> bytes:
     return joined([*lines, '(report)'])
 
 
-SAMPLES = ('(grid 812400 thermal)', '(grid 1 hydro)', '(plant 0 1 7000 (fuel 1000 43000 74100))',
+SAMPLES = ('(grid 812400 thermal)', '(grid 1 hydro)', '(grid margins 812401 20 100 0 thermal)',
+           '(grid margins 7 8 49 51 hydro)', '(plant 0 1 7000 (fuel 1000 43000 74100))',
            '(source 10 project (captive 1) (none) (whole + 10 11))',
            '(source 0 leakage (either 1) (loss 20) (single - 3f800000 4cbebc20))',
            '(source 0 baseline (griddefault) (default3) (whole - 0 0))',
@@ -533,8 +615,9 @@ def boundary_inputs() -> list[bytes]:
         *(every_exponent(sign, side, readings) for sign in (0, 1)
           for side in ('project', 'baseline')
           for readings in ('00000000 {}', '{} 4cbebc20')),
-        registers_at_rest(), register_pairs(), limits(), generation_limits(), alone_at_zero(),
-        comparisons(),
+        registers_at_rest(), register_pairs(), limits(), *margins_in_lists(),
+        margins_and_weights(), means_by_captive(), largest_means(), generation_limits(),
+        alone_at_zero(), comparisons(),
         source_precedence(), report_precedence(), largest_report(), counts(),
         line_lengths(), *long_last_lines(), odd_bytes(), *malformed_by_place(),
         *(numbers_in_fields([value]) for value in WIDE), numbers_in_fields(ZEROS_BEFORE),
@@ -555,6 +638,7 @@ def words() -> set[str]:
 def write_for_fuzzer(folder: Path):
     """inputs/ has an input a file, and the file words the form that AFL++ reads."""
     inputs = [listing(), joined(NUMBERED), report_precedence(), joined(SAMPLES), b'(report)',
+              *margins_in_lists(),
               *(counterexamples.text(make()) for make in counterexamples.CASES),
               *(random_input(seed, 12) for seed in range(20))]
     (folder / 'inputs').mkdir()
@@ -566,6 +650,37 @@ def write_for_fuzzer(folder: Path):
 # The self-check
 
 
+def kinds_of(ledger: reference.Ledger, report: reference.Report) -> set[tuple]:
+    """What each source of a report is, and which option it took."""
+    return {(source.side, source.supply.name, source.loss.name, report.figures[number].option)
+            for number, source in ledger.sources.items()}
+
+
+# 3 sides by 3 losses by combined, griddefault and either with its two options;
+# 3 sides by captive and captivedefault
+SOURCE_KINDS = 42
+
+
+def means_of(ledger: reference.Ledger, report: reference.Report) -> set[tuple]:
+    """The sides of the sources that take a mean which is not whole: by combined, or by either
+    where the captive factor is the mean rounded as the side, or as the other."""
+    if ledger.grid is None or ledger.grid.combined_margin.denominator == 1:
+        return set()
+    met = set()
+    for number, source in ledger.sources.items():
+        up = reference.rounds_up(source.side)
+        if source.supply.name == 'combined':
+            met.add((source.side, 'combined'))
+        elif source.supply.name == 'either' and report.figures[number].option == 'combined':
+            captive = reference.captive_factor(ledger, source.supply.site, up)
+            met |= {(source.side, way) for way, rounding in (('own', up), ('other', not up))
+                    if captive == reference.combined_factor(ledger.grid, rounding)}
+    return met
+
+
+SOURCE_MEANS = 9  # 3 sides by combined and the two captive factors
+
+
 class Met:
     """What the inputs meet on the reference."""
 
@@ -574,6 +689,8 @@ class Met:
         self.inputs = self.given = self.reports = self.mostly_malformed = 0
         self.sign_and_exponent = set()
         self.kinds = set()  # of the sources in reports given
+        self.means = set()
+        self.of_margins = set()  # answers to lines with margins
         self.most_sources = 0
 
     def run(self, data: bytes) -> bytes:
@@ -585,6 +702,8 @@ class Met:
         self.inputs += 1
         self.reports += sum(refusals[n] for n in range(8, 14)) + answers.count(b'reduction')
         self.mostly_malformed += 3 * refusals[14] >= len(answers) > 0
+        self.of_margins |= {answer for line, answer in zip(reference.lines_of(data), answers)
+                            if b'margins' in line}
         self.sign_and_exponent |= {
             int(register, 16) >> 23 for register in re.findall(rb'\b[0-9a-f]{8}\b', data)}
         return output
@@ -593,32 +712,33 @@ class Met:
         reference.check_demand_3(ledger, report)
         self.given += 1
         self.most_sources = max(self.most_sources, len(ledger.sources))
-        self.kinds |= {(source.side, source.supply.name, source.loss.name,
-                        report.figures[number].option)
-                       for number, source in ledger.sources.items()}
+        self.kinds |= kinds_of(ledger, report)
+        self.means |= means_of(ledger, report)
 
     def show(self, name: str):
         refusals = ', '.join(f'{n}: {self.refusals[n]}' for n in sorted(self.refusals))
         print(f'{name}: {self.inputs} inputs, {self.given} of {self.reports} reports given, '
               f'{self.mostly_malformed} inputs with a third or more malformed')
         print(f'  refusals {refusals}')
-        print(f'  in reports given, {len(self.kinds)} kinds of sources and up to '
-              f'{self.most_sources} sources')
+        print(f'  in reports given, {len(self.kinds)} kinds of sources, {len(self.means)} of '
+              f'sources by a mean that is not whole, and up to {self.most_sources} sources')
 
 
 def missing(at_random: Met, by_hand: Met) -> list[str]:
     """What the inputs should have met and did not."""
-    refusals = {*range(1, 13), 14}  # 13 cannot occur within the limits
-    # 3 sides by 3 losses by combined, griddefault and either with its two options;
-    # 3 sides by captive and captivedefault
-    kinds = 42
+    refusals = {*range(1, 13), 14, 15}  # 13 cannot occur within the limits
+    of_margins = {b'ok', b'refused 2', b'refused 14', b'refused 15'}
     wanted = {
         'every refusal but 13, at random': set(at_random.refusals) == refusals,
         'every refusal but 13, by hand': set(by_hand.refusals) == refusals,
         'a third of the reports given': at_random.given * 3 >= at_random.reports > 0,
         'a third of the lines malformed in a tenth of the inputs':
             at_random.mostly_malformed * 10 >= at_random.inputs,
-        'every kind of source reported': len(at_random.kinds) == kinds,
+        'every kind of source reported': len(at_random.kinds) == SOURCE_KINDS,
+        'margins accepted and refused 2, 14 and 15, at random': at_random.of_margins == of_margins,
+        'margins accepted and refused 2, 14 and 15, by hand': by_hand.of_margins == of_margins,
+        'every kind of source by a mean, at random': len(at_random.means) == SOURCE_MEANS,
+        'every kind of source by a mean, by hand': len(by_hand.means) == SOURCE_MEANS,
         'every sign and exponent of a register': len(by_hand.sign_and_exponent) == 512}
     return [what for what, met in wanted.items() if not met]
 

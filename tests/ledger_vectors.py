@@ -5,14 +5,20 @@ vectors.py writes and checks them with the other vectors. A call is a vector of
 of the program `vectors` reads them. Unlike a line of text, a call always holds
 four fuel lines or meters beside their count, and its numbers go up to the last
 ones of their types.
+
+A grid entry has six arguments: its form, a stated factor (0) or margins (1), then
+F or O, then B, X and Y, which are 0 with a stated factor, and the mark, thermal (0)
+or hydro (1). A grid record that is stored has these six, and then the combined
+margin rounded up and rounded down, whatever they are.
 """
 
 from collections import Counter
 from itertools import product
 
 import reference
-from generate import EQUAL_ENERGIES, LAST_REGISTER, SPECIAL_REGISTERS, SUPPLIES
-from reference import SIDES, FuelLine, Loss, Meter, Plant, Source, Supply
+from generate import (EQUAL_ENERGIES, FIRST_WEIGHTS, LAST_REGISTER, SOURCE_KINDS, SOURCE_MEANS,
+                      SPECIAL_REGISTERS, SUPPLIES, captive_factors, kinds_of, means_of)
+from reference import SIDES, FuelLine, Loss, Margins, Meter, Plant, Source, Supply
 
 FIELDS = 24
 (NEW, GRID, PLANT, SOURCE, DROP_PLANT, DROP_SOURCE, REPORT,
@@ -28,6 +34,7 @@ LAST_U16 = 2**16 - 1
 LAST_U32 = 2**32 - 1
 LAST_U64 = 2**64 - 1
 LIMIT = reference.ENERGY_LIMIT_WH  # and the limit of a reading
+FACTOR_LIMIT = reference.FACTOR_LIMIT
 
 # What fills the places beyond the count: refused where it is read.
 NO_LINE = FuelLine(LAST_U32, 0, LAST_U32)
@@ -63,6 +70,11 @@ def counted(items: tuple, count: int, filler) -> list:
     return (placed(items, filler) + max(count - 4, 0) * [filler])[:count]
 
 
+def grid_fields(entered: int | Margins, mark: str) -> tuple[int, ...]:
+    figures = (1, *entered) if isinstance(entered, Margins) else (0, entered, 0, 0, 0)
+    return (*figures, MARKS.index(mark))
+
+
 def source_fields(number: int, source: Source) -> tuple[int, ...]:
     """All but the count and the meters. A site or a loss that is not there is the
     last number of its type, so that it would be refused."""
@@ -88,6 +100,7 @@ class Calls:
         self.refusals = Counter()
         self.reports = self.given = self.damages = 0
         self.kinds = set()  # of the sources in reports given
+        self.means = set()
         self.new()
 
     def add(self, fields: tuple, answer):
@@ -108,9 +121,9 @@ class Calls:
         self.damaged = set()
         self.add((NEW,), reference.OK)
 
-    def grid(self, margin: int, mark: str = 'thermal'):
-        return self.add_entry((GRID, margin, MARKS.index(mark)), ('grid',),
-                              self.ledger.enter_grid(margin, mark))
+    def grid(self, entered: int | Margins, mark: str = 'thermal'):
+        return self.add_entry((GRID, *grid_fields(entered, mark)), ('grid',),
+                              self.ledger.enter_grid(entered, mark))
 
     def plant(self, number: int, site: int, generation: int, *lines: tuple, count=None):
         fields, plant = plant_call(number, site, generation, lines, count)
@@ -146,21 +159,26 @@ class Calls:
         if isinstance(answer, reference.Report):
             reference.check_demand_3(self.ledger, answer)
             self.given += 1
-            self.kinds |= {(source.side, source.supply.name, source.loss.name,
-                            answer.figures[number].option)
-                           for number, source in self.ledger.sources.items()}
+            self.kinds |= kinds_of(self.ledger, answer)
+            self.means |= means_of(self.ledger, answer)
         return self.add(fields, answer)
 
     # Records stored as no call does
 
-    def mark(self, place: tuple, refusal: int | None):
+    def mark(self, place: tuple, refusal: int | None, as_kept: bool = True):
         self.damaged.discard(place)
-        if refusal is not reference.OK:
+        if refusal is not reference.OK or not as_kept:
             self.damaged.add(place)
 
-    def store_grid(self, margin: int, mark: str = 'thermal'):
-        self.mark(('grid',), self.ledger.enter_grid(margin, mark))
-        return self.add_report((STORED_GRID, margin, MARKS.index(mark)))
+    def store_grid(self, entered: int | Margins, mark: str = 'thermal', more_up: int = 0,
+                   more_down: int = 0):
+        """With so much more than the combined margin rounded up, and rounded down."""
+        exact = reference.exact_combined_margin(entered)
+        stored = [min(max(reference.rounded(exact, up) + more, 0), LAST_U32)
+                  for up, more in ((True, more_up), (False, more_down))]
+        as_kept = stored == [reference.rounded(exact, up) for up in (True, False)]
+        self.mark(('grid',), self.ledger.enter_grid(entered, mark), as_kept)
+        return self.add_report((STORED_GRID, *grid_fields(entered, mark), *stored))
 
     def store_plant(self, number: int, site: int, generation: int, *lines: tuple, count=None,
                     stands: bool = True):
@@ -218,7 +236,7 @@ def grid_and_plant_limits(calls: Calls):
     calls.source(0, 'project', either(0), measured(0), whole(1_000_003))
     calls.report()
     calls.plant(0, 0, 1_000)
-    for margin, mark in product(around(reference.FACTOR_LIMIT, LAST_U32), MARKS):
+    for margin, mark in product(around(FACTOR_LIMIT, LAST_U32), MARKS):
         calls.grid(margin, mark)
         calls.report()
     for number in around(7, LAST_U8):
@@ -233,6 +251,52 @@ def grid_and_plant_limits(calls: Calls):
             line = (*LINE[:at], figure, *LINE[at + 1:])
             calls.plant(2, 0, 7_000, *(figure % 4) * [LINE], line)
             calls.report()
+
+
+# Of 8 bits each, that do not sum to 100; 356 is 100 in 8 bits.
+UNFIT_WEIGHTS = ((0, 0), (50, 49), (49, 50), (50, 51), (101, 0), (0, 101), (100, 100),
+                 (255, 101), (101, 255), (206, 150), (LAST_U8, 0), (0, LAST_U8),
+                 (LAST_U8, LAST_U8))
+
+
+def margins_limits(calls: Calls):
+    """2 of either margin, whatever its weight, then 15; a refused entry leaves the old one."""
+    for number, side in enumerate(SIDES):
+        calls.source(number, side, COMBINED, measured(0), whole(1_000_000_003))
+    calls.grid(Margins(5, 7, 50, 51))
+    calls.report()
+    limits = (0, FACTOR_LIMIT - 1, FACTOR_LIMIT, FACTOR_LIMIT + 1, LAST_U32)
+    for pair, weights in product(product(limits, repeat=2),
+                                 ((50, 50), (0, 100), (100, 0), (1, 99), (100, 1), (0, 0))):
+        calls.grid(Margins(*pair, *weights), MARKS[sum(weights) % 2])
+        calls.report()
+    for number, weights in enumerate(UNFIT_WEIGHTS):
+        calls.grid(Margins(number, FACTOR_LIMIT, *weights))
+        calls.report()
+        calls.grid(Margins(number, FACTOR_LIMIT, number, 100 - number))
+        calls.report()
+    for stated in (3, FACTOR_LIMIT + 1):
+        calls.grid(stated)
+        calls.report()
+
+
+def means(calls: Calls):
+    """Round captive factors of 7 and of 7.5 mg/kWh; 1,000 g a mg/kWh."""
+    for number, (side, supply) in enumerate(product(SIDES, (COMBINED, either(0), either(1)))):
+        calls.source(number, side, supply, measured(0), whole(1_000_000_000))
+    calls.plant(0, 0, 1_000, (7_000, 1, 1_000))
+    calls.plant(1, 1, 1_000, (7_500, 1, 1_000))
+    for pair, first in product(((5, 6), (6, 7), (7, 6), (7, 8), (8, 8), (9, 8)), (1, 50, 99)):
+        calls.grid(Margins(*pair, first, 100 - first))
+        calls.report()
+
+
+def marks_of_margins(calls: Calls):
+    """griddefault takes the mark of margins, and none of their figures."""
+    for side, mark in product(SIDES, MARKS):
+        calls.grid(Margins(5, 7, 33, 67), mark)
+        calls.source(0, side, GRID_DEFAULT, measured(0), whole(1_000_003))
+        calls.report()
 
 
 def source_limits(calls: Calls):
@@ -422,7 +486,7 @@ def replacements(calls: Calls):
         calls.source(number, side, COMBINED, measured(0), whole(1, sign='-'))
         calls.source(number, side, captive(0), NONE, whole(2_000_001 + number))
         calls.report()
-    calls.grid(reference.FACTOR_LIMIT + 1)
+    calls.grid(FACTOR_LIMIT + 1)
     calls.plant(0, 0, 7_000, NO_LINE)
     calls.report()
     calls.grid(0, 'hydro')
@@ -471,7 +535,7 @@ def damaged_plants(calls: Calls):
 
 
 def damaged_sources(calls: Calls):
-    """The same of sources, of a loss that does not go with the supply, and of the grid."""
+    """The same of sources, and of a loss that does not go with the supply."""
     for number, damage in enumerate((
             (captive(4), NONE, 1), (either(LAST_U8), DEFAULT20, 1), (COMBINED, measured(5_001), 1),
             (either(0), measured(LAST_U16), 1), (GRID_DEFAULT, DEFAULT3, LIMIT + 1),
@@ -488,18 +552,42 @@ def damaged_sources(calls: Calls):
         else:
             calls.source(at, side, CAPTIVE_DEFAULT, NONE, whole(number))
         calls.store_source(number, side, *damage, stands=False)
-    for margin in around(reference.FACTOR_LIMIT, LAST_U32):
+
+
+def damaged_grids(calls: Calls):
+    """A record that no entry leaves: an entry that would be refused, or one of the two
+    roundings another than the entry's."""
+    calls.source(0, 'project', COMBINED, measured(0), whole(1_000_000_000))
+    calls.source(1, 'baseline', COMBINED, measured(0), whole(1_000_000_000))
+    for margin in around(FACTOR_LIMIT, LAST_U32):
         calls.store_grid(margin, 'hydro')
-    calls.grid(LAST_U32)
+    calls.grid(LAST_U32)  # refused, so it mends nothing
     calls.report()
     calls.grid(1)
     calls.report()
+    within = (7, FACTOR_LIMIT, Margins(6, 8, 50, 50), Margins(6, 7, 50, 50),
+              Margins(FACTOR_LIMIT, FACTOR_LIMIT - 1, 1, 99), Margins(FACTOR_LIMIT, 0, 0, 100))
+    for entered, more in product(within, ((0, 0), (1, 0), (0, 1), (-1, 0), (0, -1), (-1, 1),
+                                          (1, 1), (LAST_U32, 0), (0, LAST_U32))):
+        calls.store_grid(entered, 'thermal', *more)
+    for weights in UNFIT_WEIGHTS:
+        calls.store_grid(Margins(6, 7, *weights))
+        calls.grid(Margins(6, 7, *weights))
+        calls.report()
+        calls.grid(Margins(6, 7, 49, 51), 'hydro')
+        calls.report()
+    for pair, weights in product(((FACTOR_LIMIT + 1, 5), (LAST_U32, 5)), ((0, 100), (1, 99))):
+        calls.store_grid(Margins(*pair, *weights))
+        calls.store_grid(Margins(*pair[::-1], *weights[::-1]))
+    calls.grid(Margins(6, 7, 1, 99))
+    calls.report()
 
 
-BY_HAND = (listing, grid_and_plant_limits, source_limits, counts, registers,
-           every_supply_and_loss, generation_limits, alone_at_zero, comparisons,
-           either_both_ways, largest_report, source_precedence, report_precedence,
-           replacements, drops, damaged_plants, damaged_sources)
+BY_HAND = (listing, grid_and_plant_limits, margins_limits, means, marks_of_margins,
+           source_limits, counts, registers, every_supply_and_loss, generation_limits,
+           alone_at_zero, comparisons, either_both_ways, largest_report, source_precedence,
+           report_precedence, replacements, drops, damaged_plants, damaged_sources,
+           damaged_grids)
 
 
 # 2. Lists at random
@@ -593,7 +681,28 @@ class RandomCalls(Calls):
     # Calls
 
     def random_grid(self):
-        self.grid(self.number(reference.FACTOR_LIMIT, LAST_U32), self.pick(MARKS))
+        self.grid(self.combined_margin(), self.pick(MARKS))
+
+    def combined_margin(self) -> int | Margins:
+        if self.chance(40):
+            return self.number(FACTOR_LIMIT, LAST_U32)
+        pair = self.margins()
+        return Margins(*pair, *self.weights(max(pair) > FACTOR_LIMIT))
+
+    def weights(self, beside_refused: bool) -> tuple[int, int]:
+        """Beside a margin that is refused 2, half of them would be refused 15."""
+        if self.chance(50 if beside_refused else 10):
+            return self.pick(UNFIT_WEIGHTS)
+        first = self.pick((*FIRST_WEIGHTS, self.numbers.below(101)))
+        return first, 100 - first
+
+    def margins(self) -> list[int]:
+        """Half of them round a captive factor, which either compares their mean with."""
+        if self.chance(50):
+            near = self.pick(captive_factors(self.ledger)
+                             or [self.number(FACTOR_LIMIT, LAST_U32 - 2)])
+            return [max(near + self.numbers.below(3) - 1, 0) for _ in range(2)]
+        return [self.number(FACTOR_LIMIT, LAST_U32) for _ in range(2)]
 
     def fuel(self, generation: int) -> tuple[int, int, int]:
         """Burnt for so many kWh, mostly at less than 10,000,000 mg/kWh."""
@@ -655,7 +764,10 @@ class RandomCalls(Calls):
 
     def random_store(self):
         """A record of any figures."""
-        if self.chance(50):
+        if self.chance(20):
+            self.store_grid(self.combined_margin(), self.pick(MARKS),
+                            self.pick((0, 0, 0, 1, -1)), self.pick((0, 0, 0, 1, -1)))
+        elif self.chance(50):
             self.store_plant(self.numbers.below(8), self.index(4),
                              self.number(100_000_000, LAST_U32),
                              *(self.fuel(1_000) for _ in range(4)), count=self.pick((0, 1, 4, 5)),
@@ -684,17 +796,17 @@ class RandomCalls(Calls):
             answer = self.report()
 
     def add_list(self):
-        """Mostly begins with a grid and plants, without which few reports are given."""
+        """Mostly begins with plants and a grid, without which few reports are given."""
         self.begin()
         end = len(self.vectors) + CALLS
         self.new()
-        if self.chance(80):
-            self.random_grid()
         for site in range(4):
             if self.chance(80):
                 self.plant_at(site, site, self.pick((1_000, 1_001, 7_000, 100_000_000)))
+        if self.chance(80):
+            self.random_grid()
         calls = (*9 * (self.random_source,), *2 * (self.random_report,), *2 * (self.random_drop,),
-                 *2 * (self.random_plant,), self.random_grid)
+                 *2 * (self.random_plant,), *2 * (self.random_grid,))
         stores = (self.random_store,) if self.chance(20) else ()
         while len(self.vectors) < end - 1:
             self.pick(calls + stores)()
@@ -706,11 +818,13 @@ class NotMet(Exception):
 
 
 def check_met(by_hand: Calls, at_random: Calls):
-    # 3 sides by 3 losses by combined, griddefault and either with its two options;
-    # 3 sides by captive and captivedefault
-    met = {'every kind of source is reported': len(by_hand.kinds) == 42}
+    met = {'every kind of source is reported': len(by_hand.kinds) == SOURCE_KINDS,
+           'every kind of source by a mean is reported': len(by_hand.means) == SOURCE_MEANS}
     for name, calls in (('by hand', by_hand), ('at random', at_random)):
-        met[f'every refusal of 1 to 12 is met {name}'] = set(calls.refusals) == {*range(1, 13)}
+        met[f'every refusal of 1 to 12 and 15 is met {name}'] = (
+            set(calls.refusals) == {*range(1, 13), 15})
+        met[f'a mean that is not whole is taken in each way {name}'] = (
+            len({way for _, way in calls.means}) == 3)
         met[f'damage is met {name}'] = calls.damages > 0
         met[f'a third of the reports {name} is given'] = calls.given * 3 >= calls.reports
     missing = [what for what, holds in met.items() if not holds]

@@ -22,6 +22,8 @@ ROOT = Path(__file__).resolve().parent.parent
 DOCUMENTS = [ROOT / 'README.md', *sorted((ROOT / 'docs').glob('*.md')), ROOT / 'box/README.md']
 CODED = re.compile(r'`([^`\n]+)`')
 NAME = re.compile(r"[A-Za-z_][\w'ᵣ·-]+(?:(?:::|\.|/)[A-Za-z_*][\w'*-]*)*(?:\.\.)?")
+# The rows of the tables that name edits.
+EDIT_TABLES = re.compile(r'^\| (?:Worthless build|Slip|Contract) \|.*\n\|[-|]+\n((?:\|.*\|\n)+)', re.MULTILINE)
 MARKED = re.compile(r'`((?:\w+/)?[a-z_0-9]+)`((?: \([tdc]\))*)')
 
 # Words of the text form, of formulas and of the toolchain, which nothing declares.
@@ -85,11 +87,10 @@ def marks_of(path: Path) -> set[str]:
 def named_edits() -> list[tuple[str, str, set[str]]]:
     """Crate, label and marks of each edit that a table of docs/PROVED.md names."""
     text = (ROOT / 'docs/PROVED.md').read_text(encoding='utf-8')
-    rows = re.findall(r'^\|.*\|$', text[text.index('| Worthless build'):], re.MULTILINE)
     named = []
-    for row in rows:
-        *first, last = row.strip('| ').split(' | ')
-        crate = re.match(r'\w+', first[0]).group() if first else ''
+    for row in ''.join(EDIT_TABLES.findall(text)).splitlines():
+        first, *_, last = row.strip('| ').split(' | ')
+        crate = re.match(r'\w+', first).group()
         for name, marks in MARKED.findall(last):
             of, label = name.split('/') if '/' in name else (crate, name)
             named.append((of, label, set(re.findall(r'[tdc]', marks))))

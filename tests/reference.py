@@ -1,7 +1,8 @@
-"""A second implementation of document 01, to compare the programs tally and panel with.
+"""A second implementation of document 01 with wish 1 of document 02, to compare the
+programs tally and panel with.
 
-Written from document 01 alone, with an exact fraction wherever the paper has
-an exact value. Comments in quotation marks are the paper's sentences; a bare
+Written from these papers alone, with an exact fraction wherever they have an
+exact value. Comments in quotation marks are the papers' sentences; a bare
 number in a comment is the refusal that the line decides.
 """
 
@@ -174,8 +175,16 @@ GRID_SUPPLIES = ('combined', 'griddefault', 'either')
 SITE_SUPPLIES = ('captive', 'either')
 
 
+class Margins(NamedTuple):
+    # "two margins in mg/kWh (at most 10,000,000 each) and two weights in percent"
+    operating: int  # O
+    build: int  # B
+    operating_weight: int  # X
+    build_weight: int  # Y
+
+
 class Grid(NamedTuple):
-    combined_margin: int  # mg/kWh
+    combined_margin: Fraction  # mg/kWh, rounded nowhere
     mark: str  # 'thermal' or 'hydro'
 
 
@@ -217,10 +226,12 @@ class Ledger:
         self.plants: dict[int, Plant] = {}
         self.sources: dict[int, Source] = {}
 
-    def enter_grid(self, combined_margin: int, mark: str) -> int | None:
-        if combined_margin > FACTOR_LIMIT:
-            return 2
-        self.grid = Grid(combined_margin, mark)
+    def enter_grid(self, entered: int | Margins, mark: str) -> int | None:
+        """The combined margin as stated, or the margins that it is worked out from."""
+        refusal = margin_refused(entered)
+        if refusal is not OK:
+            return refusal
+        self.grid = Grid(exact_combined_margin(entered), mark)
         return OK
 
     def enter_plant(self, number: int, plant: Plant) -> int | None:
@@ -245,6 +256,24 @@ class Ledger:
 
     def drop_source(self, number: int) -> int | None:
         return drop(self.sources, number, highest=31)
+
+
+def margin_refused(entered: int | Margins) -> int | None:
+    if not isinstance(entered, Margins):
+        return 2 if entered > FACTOR_LIMIT else OK
+    # "A margin above its limit is refused 2, then weights that don't sum to 100 are
+    # refused 15."
+    if entered.operating > FACTOR_LIMIT or entered.build > FACTOR_LIMIT:
+        return 2
+    return 15 if entered.operating_weight + entered.build_weight != 100 else OK
+
+
+def exact_combined_margin(entered: int | Margins) -> Fraction:
+    # "the factor is their weighted mean"
+    if not isinstance(entered, Margins):
+        return Fraction(entered)
+    return Fraction(entered.operating * entered.operating_weight
+                    + entered.build * entered.build_weight, 100)
 
 
 def source_refused(number: int, source: Source) -> int | None:
@@ -368,12 +397,17 @@ def captive_factor(ledger: Ledger, site: int, up: bool) -> int:
     return factor_over(milligrams, generation_at(ledger, site), up)
 
 
+def combined_factor(grid: Grid, up: bool) -> int:
+    # "The grid record keeps the mean rounded both ways and each side takes its own."
+    return rounded(grid.combined_margin, up)
+
+
 def emission_factor(ledger: Ledger, source: Source) -> tuple[str, int]:
     """The supply that F is taken from, and F. Refusals 8 to 11 are ruled out."""
     name, site = source.supply
     up = rounds_up(source.side)
     if name == 'combined':
-        return name, ledger.grid.combined_margin
+        return name, combined_factor(ledger.grid, up)
     if name == 'griddefault':
         return name, grid_default_factor(ledger)
     if name == 'captivedefault':
@@ -384,7 +418,7 @@ def emission_factor(ledger: Ledger, source: Source) -> tuple[str, int]:
         return name, captive
     # either: "the greater of combined and captive for project and leakage, the
     # smaller for baseline"; "of two equal factors under either, combined".
-    combined = ledger.grid.combined_margin
+    combined = combined_factor(ledger.grid, up)
     takes_captive = captive > combined if up else captive < combined
     return ('captive', captive) if takes_captive else ('combined', combined)
 
@@ -468,8 +502,11 @@ def side_report(ledger: Ledger, figures: dict, side: str) -> SideReport:
 
 def exact_factor(ledger: Ledger, source: Source, figure: Figure) -> Fraction:
     """F with unrounded quotients, of the option that the rounded factors chose."""
+    if figure.option == 'combined':
+        # "The exact side value uses the unrounded mean"
+        return ledger.grid.combined_margin
     if figure.option != 'captive':
-        return Fraction(figure.factor)  # entered or fixed, so exact as it is
+        return Fraction(figure.factor)  # fixed, so exact as it is
     milligrams = sum(exact_fuel_milligrams(*line)
                      for plant in plants_at(ledger, source.supply.site)
                      for line in plant.fuel_lines)
@@ -593,6 +630,9 @@ def form(text: bytes) -> re.Pattern:
 
 
 GRID_FORM = form(rb'\(grid (<number>) (thermal|hydro)\)')
+# "the two margins, then their weights"
+MARGINS_FORM = form(rb'\(grid margins (<number>) (<number>) (<number>) (<number>)'
+                    rb' (thermal|hydro)\)')
 # "Any count of fuel lines or meters, none included, is a form; the entry judges it."
 PLANT_FORM = form(rb'\(plant (<number>) (<number>) (<number>)'
                   rb'((?: \(fuel <number> <number> <number>\))*)\)')
@@ -624,6 +664,11 @@ def grid_call(ledger: Ledger, parts: re.Match):
     return ledger.enter_grid(int(parts[1]), parts[2].decode())
 
 
+def margins_call(ledger: Ledger, parts: re.Match):
+    *margins, mark = parts.groups()
+    return ledger.enter_grid(Margins(*map(int, margins)), mark.decode())
+
+
 def plant_call(ledger: Ledger, parts: re.Match):
     lines = [FuelLine(*map(int, line)) for line in FUEL_PARTS.findall(parts[4])]
     return ledger.enter_plant(int(parts[1]), Plant(int(parts[2]), int(parts[3]), lines))
@@ -646,8 +691,8 @@ def report_call(ledger: Ledger, parts: re.Match):
     return report(ledger)
 
 
-CALLS = ((GRID_FORM, grid_call), (PLANT_FORM, plant_call), (SOURCE_FORM, source_call),
-         (DROP_FORM, drop_call), (REPORT_FORM, report_call))
+CALLS = ((GRID_FORM, grid_call), (MARGINS_FORM, margins_call), (PLANT_FORM, plant_call),
+         (SOURCE_FORM, source_call), (DROP_FORM, drop_call), (REPORT_FORM, report_call))
 
 
 def perform(ledger: Ledger, line: bytes) -> None | int | Refused | Report:

@@ -1,4 +1,5 @@
-"""Document 01's listing, its bench table and hand-worked cases on the reference.
+"""Document 01's listing, its bench table and hand-worked cases on the reference, with
+those of margins, which are document 02's.
 
 Prints each failure and, last, `N passed, M failed`; fails if M is not 0.
 """
@@ -8,6 +9,7 @@ import struct
 import sys
 from fractions import Fraction
 
+import margins
 import reference
 from reference import Refused, fuel_milligrams, reading_watt_hours, tally
 
@@ -192,6 +194,15 @@ def drops_and_replacement(checks: Checks):
                     '(grid 2000000 hydro)', '(report)'],
                    'ok/ok/ok/refused 9 source 0/ok/ok/ok/ok/'
                    'project 1 14 1/leakage 0 0 0/baseline 0 0 0/reduction -1')
+
+
+def margins_lists(checks: Checks):
+    """Each line's answer by itself, so that a failure names its line."""
+    for name, pairs in margins.LISTS.items():
+        given = reference.answers('\n'.join(margins.lines(name)).encode())
+        for at, ((line, expected), answer) in enumerate(zip(pairs, given, strict=True), 1):
+            checks.equal(f'margins, {name}, line {at}: {line}',
+                         answer.decode().removesuffix('\n').replace('\n', '/'), expected)
 
 
 def meters(checks: Checks):
@@ -430,6 +441,59 @@ def exact_options(checks: Checks):
                  -project - leakage)
 
 
+def exact_margins(checks: Checks):
+    """1,000 kWh at 750,000.5 mg/kWh are 0.7500005 t, on either side; the record has
+    750,001 and 750,000. Then 1,000,001 Wh with 20 per cent at 37.69 mg/kWh."""
+    (ledger, given), = reports_of('\n'.join([
+        '(grid margins 1000001 500000 50 50 thermal)', grid_source(0, 'project', 1_000_000),
+        grid_source(1, 'baseline', 1_000_000), '(report)']))
+    checks.equal('F of margins', [figure.factor for figure in given.figures.values()],
+                 [750_001, 750_000])
+    for side in ('project', 'baseline'):
+        checks.equal(f'exact {side} of margins', reference.exact_side(ledger, given, side),
+                     Fraction(7_500_005, 10_000_000))
+    checks.equal('exact reduction of margins', reference.exact_reduction(ledger, given), 0)
+    checks.demand_3('margins', ledger, given, True)
+    (ledger, given), = reports_of('\n'.join([
+        '(grid margins 100 7 33 67 hydro)',
+        *(grid_source(n, side, 1_000_001, loss='loss 2000')
+          for n, side in enumerate(reference.SIDES)), '(report)']))
+    grams = Fraction('45.228045228')  # 1,200,001.2 × 37.69 ÷ 1,000,000
+    for number, (side, shown) in enumerate(zip(reference.SIDES, (46, 46, 44))):
+        checks.equal(f'{side} of margins with losses', given.sides[side].grams, shown)
+        checks.equal(f'exact {side} of margins with losses',
+                     reference.exact_side(ledger, given, side), grams / 10**6)
+        checks.equal(f'gap of {side} with margins', reference.gap(ledger, given, number),
+                     abs(shown - grams))
+    checks.demand_3('margins with losses', ledger, given, True)
+
+
+def exact_either_of_margins(checks: Checks):
+    """A captive factor of exactly 7 mg/kWh beside a mean. By its own rounding a project
+    takes 6.5 as 7 and a baseline 7.5 as 7, which is combined of two equal factors; by the
+    other rounding each would take captive."""
+    rows = (
+        ('6 7 50 50', 'project', 'combined', 7, '6.5'),
+        ('6 7 50 50', 'leakage', 'combined', 7, '6.5'),
+        ('7 8 50 50', 'baseline', 'combined', 7, '7.5'),
+        ('6 7 50 50', 'baseline', 'combined', 6, '6.5'),
+        ('7 8 50 50', 'project', 'combined', 8, '7.5'),
+        ('6 7 99 1', 'project', 'combined', 7, '6.01'),
+        ('7 8 1 99', 'baseline', 'combined', 7, '7.99'),
+        ('6 8 50 50', 'project', 'combined', 7, '7'),
+        ('5 6 1 99', 'project', 'captive', 7, '7'),
+        ('9 8 1 99', 'baseline', 'captive', 7, '7'))
+    for entered, side, option, factor, exact in rows:
+        (ledger, given), = reports_of('\n'.join([
+            f'(grid margins {entered} hydro)', '(plant 0 0 1000 (fuel 7000 1 1000))',
+            grid_source(0, side, 1_000_000, 'either 0'), '(report)']))
+        name = f'either of margins {entered}, {side}'
+        checks.equal(name, (given.figures[0].option, given.figures[0].factor), (option, factor))
+        checks.equal(f'exact {name}', reference.exact_side(ledger, given, side),
+                     Fraction(exact) / 10**6)  # 1,000 kWh: as many grams
+        checks.demand_3(name, ledger, given, True)
+
+
 def exact_energy_below_zero(checks: Checks):
     """A + meter at rest and a - meter that moved by less than a watt-hour."""
     (ledger, given), = reports_of('\n'.join([
@@ -473,10 +537,10 @@ def main() -> int:
     checks = Checks()
     checks.equal('listing', tally(LISTING.encode()).decode(), LISTING_OUTPUT)
     for part in (bench_table, registers, grid_and_plant_entries, source_entries,
-                 drops_and_replacement, meters, grid_defaults, default_losses,
+                 drops_and_replacement, margins_lists, meters, grid_defaults, default_losses,
                  captive_supplies, rounded_lines, report_refusals, largest_side, text,
-                 lines_answered, exact_values, exact_options, exact_energy_below_zero,
-                 demand_3_can_fail):
+                 lines_answered, exact_values, exact_options, exact_margins,
+                 exact_either_of_margins, exact_energy_below_zero, demand_3_can_fail):
         part(checks)
     print(f'{checks.passed} passed, {checks.failed} failed')
     return 1 if checks.failed else 0
