@@ -24,8 +24,9 @@ SUPPLIES = ('(combined) (%)', '(captive $) (none)', '(either $) (%)', '(griddefa
 
 
 def full_ledger() -> list[str]:
-    """8 plants of 4 fuel lines on 4 sites, 32 sources of 4 meters over all supplies and losses."""
-    lines = ['(grid 812400 thermal)']
+    """A grid of margins, 8 plants of 4 fuel lines on 4 sites, and 32 sources of 4 meters over all
+    supplies and losses."""
+    lines = ['(grid margins 1012400 612501 50 50 thermal)']
     for plant in range(8):
         fuels = [f'(fuel {100_000 + 777 * plant + 31 * k} {43_000 + 13 * k} {74_100 - 7 * k})'
                  for k in range(4)]

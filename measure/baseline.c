@@ -11,11 +11,41 @@ enum loss_kind { NOTHING, MEASURED, DEFAULT20, DEFAULT3 };
 struct fuel_line { uint32_t quantity, ncv, factor; };
 struct plant { bool stands; uint8_t site, count; uint32_t generation; struct fuel_line lines[4]; };
 struct source { bool stands; uint8_t side, supply, site, loss; uint16_t measured; uint64_t energy; };
-struct ledger { bool has_grid, hydro; uint32_t margin; struct plant plants[8]; struct source sources[32]; };
+struct margins { uint32_t operating, build; uint8_t operating_weight, build_weight; };
+struct grid_entry { bool hydro, is_mean; union { uint32_t stated; struct margins margins; }; };
+struct grid { bool stands; struct grid_entry entry; uint32_t up, down; };
+struct ledger { struct grid grid; struct plant plants[8]; struct source sources[32]; };
 struct meter { bool minus, single; uint32_t first, last; };
 struct consumption { uint64_t project, baseline; uint8_t projects, baselines; };
 
 static uint64_t divide(bool up, uint64_t n, uint64_t d) { return n / d + (up && n % d != 0); }
+
+// ---- grid entry
+
+static const uint32_t FACTOR_LIMIT = 10000000;
+
+// The refusal, 2 or 15, or 0 and the combined margin rounded both ways.
+static int judge_grid(const struct grid_entry *e, uint32_t *up, uint32_t *down) {
+    if (!e->is_mean) {
+        if (e->stated > FACTOR_LIMIT) return 2;
+        *up = *down = e->stated;
+        return 0;
+    }
+    const struct margins *m = &e->margins;
+    if (m->operating > FACTOR_LIMIT || m->build > FACTOR_LIMIT) return 2;
+    if (m->operating_weight + m->build_weight != 100) return 15;
+    uint64_t sum = (uint64_t)m->operating * m->operating_weight + (uint64_t)m->build * m->build_weight;
+    *up = divide(true, sum, 100);
+    *down = divide(false, sum, 100);
+    return 0;
+}
+
+static int enter_grid(struct ledger *l, struct grid_entry entry) {
+    struct grid g = {true, entry, 0, 0};
+    int refused = judge_grid(&entry, &g.up, &g.down);
+    if (!refused) l->grid = g;
+    return refused;
+}
 
 // ---- source entry
 
@@ -83,25 +113,25 @@ static int captive_factor(const struct ledger *l, uint8_t site, bool up, uint64_
     }
     if (generation < 1000) return 9;
     *factor = divide(up, milligrams, generation);
-    return *factor > 10000000 ? 10 : 0;
+    return *factor > FACTOR_LIMIT ? 10 : 0;
 }
 
 static int factor_of(const struct ledger *l, const struct source *s, const struct consumption *c, bool up, uint64_t *factor) {
-    if (s->supply != CAPTIVE && s->supply != CAPTIVE_DEFAULT && !l->has_grid) return 8;
-    uint64_t at_site;
+    if (s->supply != CAPTIVE && s->supply != CAPTIVE_DEFAULT && !l->grid.stands) return 8;
+    uint64_t at_site, margin = up ? l->grid.up : l->grid.down;
     int refused;
     switch (s->supply) {
-    case COMBINED: *factor = l->margin; return 0;
+    case COMBINED: *factor = margin; return 0;
     case GRID_DEFAULT:
         if (c->baselines == 0 || c->project > c->baseline) { *factor = 1300000; return 0; }
-        if (c->projects == 0 || c->baseline > c->project) { *factor = l->hydro ? 250000 : 400000; return 0; }
+        if (c->projects == 0 || c->baseline > c->project) { *factor = l->grid.entry.hydro ? 250000 : 400000; return 0; }
         return 11;
     case CAPTIVE: return captive_factor(l, s->site, up, factor);
     case CAPTIVE_DEFAULT: *factor = up ? 1300000 : 400000; return 0;
     default:
         refused = captive_factor(l, s->site, up, &at_site);
         if (refused) return refused;
-        *factor = (up ? at_site > l->margin : at_site < l->margin) ? at_site : l->margin;
+        *factor = (up ? at_site > margin : at_site < margin) ? at_site : margin;
         return 0;
     }
 }
@@ -117,9 +147,14 @@ static int loss_of(const struct source *s, const struct consumption *c, bool up,
 
 static bool line_fits(const struct fuel_line *l) { return l->quantity <= 100000000 && l->ncv >= 1 && l->ncv <= 150000 && l->factor <= 200000; }
 
-// Whether the records meet the limits of accepted entries, which the proved report looks at too.
+static bool grid_intact(const struct grid *g) {
+    uint32_t up, down;
+    return !g->stands || (!judge_grid(&g->entry, &up, &down) && up == g->up && down == g->down);
+}
+
+// Whether the records are such as accepted entries leave, which the proved report looks at too.
 static bool intact(const struct ledger *l) {
-    if (l->has_grid && l->margin > 10000000) return false;
+    if (!grid_intact(&l->grid)) return false;
     for (int i = 0; i < 8; i++) {
         const struct plant *p = &l->plants[i];
         if (!p->stands) continue;
@@ -169,6 +204,12 @@ static int report_on(const struct ledger *l, struct report *r) {
 
 // ---- the ledgers and the loops of crates/measure
 
+static struct grid_entry grid_of(uint32_t seed) {
+    uint32_t operating = seed % 9000000;
+    struct grid_entry e = {.is_mean = true, .margins = {operating, operating + 1001, 75, 25}};
+    return e;
+}
+
 static struct plant plant_of(uint32_t seed) {
     struct fuel_line line = {1000 + seed % 1000, 43000, 74100};
     struct plant p = {true, seed % 4, 4, 70000, {line, line, line, line}};
@@ -199,8 +240,7 @@ uint64_t plain_source(const uint32_t *words, uint32_t times, uint32_t first, uin
 uint64_t plain_report(const uint32_t *words, uint32_t times) {
     struct ledger l;
     memset(&l, 0, sizeof l);
-    l.has_grid = true;
-    l.margin = words[0] % 10000000;
+    enter_grid(&l, grid_of(words[0]));
     for (int i = 0; i < 8; i++) l.plants[i] = plant_of(words[1]);
     for (int i = 0; i < 32; i++) l.sources[i] = source_of(words[2] % 0x10000);
     uint64_t sum = 0;

@@ -49,9 +49,12 @@ static void put_source(uint32_t *words, uint32_t number) {
     put_call(words, SOURCE, number, fields, first, last);
 }
 
+// A stated factor or two margins, whose weights sum to 100 but for the odd one.
 static void put_grid(uint32_t *words) {
-    uint32_t kind = below(2), margin = below(11000000);
-    put_call(words, GRID, 0, kind, margin, 0);
+    uint32_t kind = below(2), form = below(2), first = below(11000000), last = below(11000000);
+    uint32_t operating = 1 + below(99), build = 100 - operating;
+    if (odd_one()) build = below(100);
+    put_call(words, GRID, 0, kind + 10 * form + 100 * operating + 10000 * build, first, last);
 }
 
 static void put_any_call(uint32_t *words) {

@@ -65,10 +65,27 @@ static void stop(const char *what) {
     exit(1);
 }
 
+// The answers to grid entries: those accepted of each form, and those refused 2 and 15.
+struct grid_answers { size_t stated, mean, limit, weights; };
+
+static void count_grid(struct grid_answers *g, uint32_t fields, uint32_t told) {
+    if (told == 2) g->limit++;
+    else if (told == 15) g->weights++;
+    else if (fields / 10 % 10) g->mean++;
+    else g->stated++;
+}
+
+static void show_grid(const struct grid_answers *g) {
+    printf("its grid entries: %zu of a factor and %zu of margins accepted, %zu refused 2, %zu refused 15\n", g->stated, g->mean, g->limit,
+           g->weights);
+    if (!g->stated || !g->mean || !g->limit || !g->weights) stop("a kind of answer to a grid entry is missing");
+}
+
 // The answer to a call is what the program's answers to the list up to it and to the list before it differ by:
 // 0 or the number of a refusal, and for a report its grams.
 static void count_answers(void) {
     size_t accepted = 0, refused = 0, given = 0, not_given = 0;
+    struct grid_answers grid = {0, 0, 0, 0};
     uint64_t before = 0;
     for (size_t i = 0; i < CALLS; i++) {
         uint64_t sum = owner_program(calls, (i + 1) * CALL_WORDS);
@@ -79,11 +96,13 @@ static void count_answers(void) {
         else if (report) given++;
         else if (told) refused++;
         else accepted++;
+        if (calls[i * CALL_WORDS] % 10 == GRID) count_grid(&grid, calls[i * CALL_WORDS + 1], told);
         before = sum;
     }
     printf("the program's list: %d calls; %zu entries and drops accepted, %zu refused; %zu reports given, %zu refused\n", CALLS, accepted,
            refused, given, not_given);
     if (!accepted || !refused || !given || !not_given) stop("a kind of answer is missing");
+    show_grid(&grid);
 }
 
 int main(void) {
@@ -97,8 +116,9 @@ int main(void) {
         {"ledger", hold_8_ledgers, hold_16_ledgers, 8},
     };
     for (uint32_t i = 0; i < 32; i++) words[i] = 4 * one;
-    // The call that each operation makes: it is accepted, whether it is read as an entry or as a drop.
-    put_call(words + CALL_WORDS * one, PLANT, 1, 41, 70000, 1000);
+    // The call that each operation makes: it is accepted, whether it is read as an entry, of a grid by margins of
+    // weights 75 and 25 or of a plant with 4 lines, or as a drop.
+    put_call(words + CALL_WORDS * one, PLANT, 1, 41 + 100 * 75 + 10000 * 25, 70000, 1000);
     put_calls(calls);
     count_answers();
     printf("stack, bytes\n");

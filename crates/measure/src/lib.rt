@@ -2,12 +2,17 @@
 // came back, so that no part of the work can be left out. `owner_` hands an operation one record and stores what
 // is kept. Each operation is called in two functions: with one caller alone the compiler would merge it into
 // that one.
+use emissions::CombinedMargin;
+use emissions::EnteredGrid;
 use emissions::Grid;
 use emissions::GridEntry;
+use emissions::GridJudged;
 use emissions::GridKind;
 use emissions::Loss;
+use emissions::Margins;
 use emissions::Side;
 use emissions::Supply;
+use emissions::Weights;
 use fuel::FuelLine;
 use ledger::Ledger;
 use metering::Interval;
@@ -117,12 +122,31 @@ fn source_record(seed: u32) -> SourceRecord {
     SourceRecord::of(source(seed % 0x1_0000))
 }
 
-fn grid_record(margin: u32) -> GridRecord {
+// Two margins with a mean that is not whole, and another mean with their weights swapped.
+fn margins(seed: u32) -> Margins {
+    let operating = seed % 9_000_000;
+    Margins {
+        operating,
+        build: operating + 1_001,
+        weights: Weights {
+            operating: 75,
+            build: 25,
+        },
+    }
+}
+
+// What an entry of margins leaves. It is judged here, since one more caller of the operation could alter how the
+// compiler merges it.
+fn grid_record(seed: u32) -> GridRecord {
+    let entry = GridEntry {
+        margin: CombinedMargin::Mean(margins(seed)),
+        kind: GridKind::Thermal,
+    };
+    let GridJudged::Accepted(grid) = entry.judged() else {
+        return GridRecord::empty();
+    };
     GridRecord {
-        grid: Grid::Entered(GridEntry {
-            margin: margin % Grid::FACTOR_LIMIT,
-            kind: GridKind::Thermal,
-        }),
+        grid: Grid::Entered(grid),
     }
 }
 
@@ -207,8 +231,8 @@ pub extern "C" fn measure_report(words: &[u32], times: u32) -> u64 {
 
 // A call of the functions below: an entry of the grid (0), of a plant (1) or of a source (2), a drop of a plant
 // (3) or of a source (4), or a report. Each field of an entry is a decimal digit of `fields`, from the last one
-// on: of a grid its kind, of a plant its site and count, of a source its side, supply, site, loss, count and
-// meters.
+// on: of a grid its kind, its form and, of two digits each, its weights, of a plant its site and count, of a
+// source its side, supply, site, loss, count and meters.
 struct Call {
     kind: u32,
     number: u8,
@@ -238,9 +262,25 @@ fn call_at(words: &[u32], i: usize) -> Call {
     }
 }
 
+// A stated factor where the form is 0, else two margins.
+fn combined_margin(call: Call) -> CombinedMargin {
+    let fields = call.fields;
+    if fields / 10 % 10 == 0 {
+        return CombinedMargin::Stated(call.first);
+    }
+    CombinedMargin::Mean(Margins {
+        operating: call.first,
+        build: call.last,
+        weights: Weights {
+            operating: (fields / 100 % 100) as u8,
+            build: (fields / 10_000 % 100) as u8,
+        },
+    })
+}
+
 fn grid_entry(call: Call) -> GridEntry {
     GridEntry {
-        margin: call.first,
+        margin: combined_margin(call),
         kind: if call.fields % 2 == 0 {
             GridKind::Thermal
         } else {
@@ -298,13 +338,30 @@ fn source_entry(call: Call) -> SourceEntry {
     }
 }
 
+fn read_margins(margins: Margins) -> u64 {
+    let weights = margins.weights;
+    let both = folded(margins.operating as u64, margins.build as u64);
+    folded(both, weights.operating as u64 + weights.build as u64)
+}
+
+// What is read of a grid: its entry's factor or margins, and both roundings.
+fn read_grid(held: EnteredGrid) -> u64 {
+    let rounded = folded(held.up as u64, held.down as u64);
+    let entry = held.entry;
+    let margin = entry.margin;
+    match margin {
+        CombinedMargin::Stated(factor) => folded(rounded, factor as u64),
+        CombinedMargin::Mean(margins) => folded(rounded, read_margins(margins)),
+    }
+}
+
 // What is read of a ledger: of its grid, a plant and a source.
 fn read_back(record: GridRecord, plant: PlantRecord, source: SourceRecord) -> u64 {
     let records = folded(plant.generation as u64, source.energy);
     let grid = record.grid;
     match grid {
         Grid::Absent => records,
-        Grid::Entered(entry) => folded(records, entry.margin as u64),
+        Grid::Entered(held) => folded(records, read_grid(held)),
     }
 }
 

@@ -1,6 +1,7 @@
 // A call on the ledger that the call before left: its operation and its arguments. Writes its answer.
 //   0  a new ledger
-//   1  grid entry: margin, thermal (0) or hydro (1)
+//   1  grid entry: form, a stated factor (0) or margins (1), the factor or the operating margin, the build
+//      margin, the weights of the two, thermal (0) or hydro (1); beside a factor the three are not read
 //   2  plant entry: number, site, generation, count, and Q, V and C of four fuel lines
 //   3  source entry: number, side, supply, site, loss, measured loss, count, and the sign, + (0) or - (1),
 //      the kind, whole (0) or single (1), and the first and last reading of four meters
@@ -9,7 +10,7 @@
 //   6  report
 // Sides, supplies and losses are counted from 0 as their enums list them. The others store a record as no
 // call does, then report:
-//   7  a grid entry, as 1
+//   7  a grid, as 1 and the combined margin rounded up and down
 //   8  a plant, as 2 and whether it stands
 //   9  a source, as 3 up to the measured loss, whether it stands, and its energy
 use crate::lines::field;
@@ -21,12 +22,16 @@ use crate::lines::field_u32;
 use crate::lines::read_line;
 use crate::lines::write_number;
 use crate::lines::write_refused;
+use emissions::CombinedMargin;
+use emissions::EnteredGrid;
 use emissions::Grid;
 use emissions::GridEntry;
 use emissions::GridKind;
 use emissions::Loss;
+use emissions::Margins;
 use emissions::Side;
 use emissions::Supply;
+use emissions::Weights;
 use ledger::Ledger;
 use ledger::LedgerKept;
 use libc::STDOUT_FILENO;
@@ -40,9 +45,23 @@ use report::Report;
 use report::Reported;
 use report::SideReport;
 
+fn combined_margin(line: &[u8]) -> CombinedMargin {
+    if field(line, 1) == 0 {
+        return CombinedMargin::Stated(field_u32(line, 2));
+    }
+    CombinedMargin::Mean(Margins {
+        operating: field_u32(line, 2),
+        build: field_u32(line, 3),
+        weights: Weights {
+            operating: field_u8(line, 4),
+            build: field_u8(line, 5),
+        },
+    })
+}
+
 fn grid_entry(line: &[u8]) -> GridEntry {
-    let margin = field_u32(line, 1);
-    let kind = if field(line, 2) == 0 {
+    let margin = combined_margin(line);
+    let kind = if field(line, 6) == 0 {
         GridKind::Thermal
     } else {
         GridKind::Hydro
@@ -103,13 +122,17 @@ fn source_entry(line: &[u8]) -> SourceEntry {
     }
 }
 
-// The ledger with a grid entry, whatever its margin.
-fn with_grid(ledger: Ledger, entry: GridEntry) -> Ledger {
+// The ledger with a grid, whatever it holds.
+fn with_grid(ledger: Ledger, line: &[u8]) -> Ledger {
     let plants = ledger.plants;
     let sources = ledger.sources;
     Ledger {
         grid: GridRecord {
-            grid: Grid::Entered(entry),
+            grid: Grid::Entered(EnteredGrid {
+                entry: grid_entry(line),
+                up: field_u32(line, 7),
+                down: field_u32(line, 8),
+            }),
         },
         plants,
         sources,
@@ -215,7 +238,7 @@ fn called(ledger: Ledger, line: &[u8]) -> Ledger {
         4 => answered(ledger.drop_plant(number)),
         5 => answered(ledger.drop_source(number)),
         6 => reported(ledger),
-        7 => reported(with_grid(ledger, grid_entry(line))),
+        7 => reported(with_grid(ledger, line)),
         8 => reported(with_plant(ledger, line)),
         _ => reported(with_source(ledger, line)),
     }
