@@ -1,5 +1,5 @@
--- A number larger than its field is judged as the field's largest: each limit is below that, and the sum of the weights. So the call in the box's fields is answered
--- as the call of the form, and leaves the same ledger. Assumes nothing.
+-- A number larger than its field is judged as the field's largest: each limit is below that, and so is what the weights sum to. So the call in
+-- the box's fields is answered as the call of the form, and leaves the same ledger. Assumes nothing.
 use Prim.Native.Nat.{ℕ, zero, suc, _+_, _≤_, _<_}
 use mathlib.Core.Path.{_≡_, refl, sym, ap, _∙_}
 use mathlib.Core.Bool.{Bool, true, false, cond, _&&_}

@@ -1,11 +1,14 @@
 -- `emissions::GridEntry::judged` meets its contract: at each return, the tests that led there; within the limits both roundings fit 32 bits.
 -- Assumes nothing.
 use borrow.Author.Needs.{needs}
+use Prim.Native.Nat.{_≤_}
 use mathlib.Core.Path.{_≡_}
 use mathlib.Core.Bool.{true, false}
 use native.Mathlib.Omega.{arith}
 use Rattle.rounding.proofs.Tests.{tested}
+use Rattle.rounding.specs.declared.Direction.{Direction}
 use Rattle.rounding.specs.declared.Direction.the-variants.{Up, Down}
+use Rattle.emissions.specs.Factor.{factorLimit, roundedCombined}
 use Rattle.emissions.specs.Grid.{marginWithinLimits, weightsFull, gridJudged}
 use Rattle.emissions.proofs.Grids.{rounded-limit}
 use Rattle.emissions.proofs.GridEntry.judged.Statement.{statement}
@@ -28,6 +31,10 @@ within c = tested _ _ (c .before .is-within-limits .ensures) false (c .if1 .left
 full : (c : tie.Else2) → weightsFull (c .before .before .before .before .args .self .margin) ≡ true
 full c = tested _ _ (c .before .has-full-weights .ensures) false (c .if2 .left)
 
+-- Then each rounding is within the limit.
+rounded-within : (dir : Direction) (c : tie.Else2) → roundedCombined dir (c .before .before .before .before .args .self .margin) ≤ factorLimit
+rounded-within dir c = rounded-limit dir _ (within (c .before .before)) (full c)
+
 returns-2 : tie.Need-returns-2
 unfolding gridJudged
 returns-2 c = rw (within (c .before .before), tested _ _ (c .before .has-full-weights .ensures) true (c .if2 .taken))
@@ -36,13 +43,13 @@ rounded-requires : tie.Need-rounded-requires
 rounded-requires c κs = search needs
 
 cast-t7 : tie.Need-cast-t7
-cast-t7 c = omega (arith, c .rounded .ensures, rounded-limit Up (c .before .before .before .before .before .args .self .margin) (within (c .before .before .before)) (full (c .before)))
+cast-t7 c = omega (arith, c .rounded .ensures, rounded-within Up (c .before))
 
 rounded-requires-2 : tie.Need-rounded-requires-2
 rounded-requires-2 c κs = search needs
 
 cast-t10 : tie.Need-cast-t10
-cast-t10 c = omega (arith, c .rounded2 .ensures, rounded-limit Down (c .before .before .before .before .before .before .args .self .margin) (within (c .before .before .before .before)) (full (c .before .before)))
+cast-t10 c = omega (arith, c .rounded2 .ensures, rounded-within Down (c .before .before))
 
 returns-3 : tie.Need-returns-3
 unfolding gridJudged
