@@ -6,7 +6,6 @@ use mathlib.Core.Path.{_≡_}
 use mathlib.Core.Bool.{true, false}
 use native.Mathlib.Omega.{arith}
 use Rattle.rounding.proofs.Tests.{tested}
-use Rattle.rounding.specs.declared.Direction.{Direction}
 use Rattle.rounding.specs.declared.Direction.the-variants.{Up, Down}
 use Rattle.emissions.specs.Factor.{factorLimit, roundedCombined}
 use Rattle.emissions.specs.Grid.{marginWithinLimits, weightsFull, gridJudged}
@@ -31,9 +30,13 @@ within c = tested _ _ (c .before .is-within-limits .ensures) false (c .if1 .left
 full : (c : tie.Else2) → weightsFull (c .before .before .before .before .args .self .margin) ≡ true
 full c = tested _ _ (c .before .has-full-weights .ensures) false (c .if2 .left)
 
--- Then each rounding is within the limit.
-rounded-within : (dir : Direction) (c : tie.Else2) → roundedCombined dir (c .before .before .before .before .args .self .margin) ≤ factorLimit
-rounded-within dir c = rounded-limit dir _ (within (c .before .before)) (full c)
+-- Then both roundings are within the limit.
+both-within : (c : tie.Else2) → let m = c .before .before .before .before .args .self .margin in
+    (roundedCombined Up m ≤ factorLimit) × (roundedCombined Down m ≤ factorLimit)
+both-within c =
+    let h = within (c .before .before) in
+    let k = full c in
+    (rounded-limit Up _ h k, rounded-limit Down _ h k)
 
 returns-2 : tie.Need-returns-2
 unfolding gridJudged
@@ -43,13 +46,13 @@ rounded-requires : tie.Need-rounded-requires
 rounded-requires c κs = search needs
 
 cast-t7 : tie.Need-cast-t7
-cast-t7 c = omega (arith, c .rounded .ensures, rounded-within Up (c .before))
+cast-t7 c = omega (arith, c .rounded .ensures, both-within (c .before))
 
 rounded-requires-2 : tie.Need-rounded-requires-2
 rounded-requires-2 c κs = search needs
 
 cast-t10 : tie.Need-cast-t10
-cast-t10 c = omega (arith, c .rounded2 .ensures, rounded-within Down (c .before .before))
+cast-t10 c = omega (arith, c .rounded2 .ensures, both-within (c .before .before))
 
 returns-3 : tie.Need-returns-3
 unfolding gridJudged
