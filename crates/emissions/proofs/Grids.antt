@@ -1,7 +1,7 @@
 -- The combined margin of a grid that an entry leaves: its roundings stand on their sides of the unrounded mean, less than 1 mg/kWh off, and
 -- are at most 10,000,000. Assumes nothing.
 use Prim.Native.Nat.{_+_, _*_, _<_, _≤_}
-use mathlib.Core.Path.{_≡_, refl, sym, ap}
+use mathlib.Core.Path.{_≡_, refl, sym, ap, _∙_}
 use mathlib.Core.Bool.{true, _&&_, true≢false}
 use native.Mathlib.Omega.{arith}
 use native.Mathlib.Nat.{mul-le-mul-right}
@@ -17,11 +17,13 @@ use Rattle.rounding.proofs.Ratio.{whole-conservative, rounds-conservative}
 use Rattle.rounding.proofs.Tests.{and-both}
 use Rattle.emissions.specs.Factor.{factorLimit, weightedSum, exactCombined, roundedCombined, margin}
 use Rattle.emissions.specs.Grid.{marginWithinLimits, weightsFull, enteredGrid, gridJudged, sameRoundings, gridIntact}
+use Rattle.emissions.specs.Answers.{gridMeaning}
 use Rattle.emissions.specs.declared.Margins.{Margins}
 use Rattle.emissions.specs.declared.CombinedMargin.{CombinedMargin}
 use Rattle.emissions.specs.declared.CombinedMargin.the-variants.{Stated, Mean}
 use Rattle.emissions.specs.declared.GridEntry.{GridEntry}
 use Rattle.emissions.specs.declared.EnteredGrid.{EnteredGrid}
+use Rattle.emissions.specs.declared.GridJudged.{GridJudged}
 use Rattle.emissions.specs.declared.Grid.{Grid}
 use Rattle.emissions.specs.declared.Grid.the-variants.{Absent, Entered}
 
@@ -77,6 +79,10 @@ grid-facts g left e =
     let p = test-held 2 (marginWithinLimits (g .margin)) _ e in
     let q = test-held 15 (weightsFull (g .margin)) _ (p .1) in
     (sym (given-is (q .1)), record { limits = p .0; full = q .0 })
+
+-- The outcome of the case that the code found.
+pub judged-as : {o : Outcome EnteredGrid} {j k : GridJudged} → gridMeaning j ≡ o → j ≡ k → o ≡ gridMeaning k
+judged-as h e = sym h ∙ ap gridMeaning e
 
 same-parts : {left g : EnteredGrid} → left .entry ≡ g .entry → left .up ≡ g .up → left .down ≡ g .down → left ≡ g
 same-parts e u d = rw (e, u, d)

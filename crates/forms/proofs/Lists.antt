@@ -11,7 +11,7 @@ use borrow.Author.Tests.{le-ltb}
 use Rattle.text.specs.Template.{Read, mapRead, templateIn}
 use Rattle.text.specs.declared.Numbers.{Numbers}
 use Rattle.text.proofs.Templates.{template-shorter}
-use Rattle.forms.specs.Form.{All}
+use Rattle.rounding.specs.Lists.{All}
 use Rattle.forms.specs.Reading.{Row, orElse, oneOf, followed, manyWithin, manyOf, fuels, meters}
 use Rattle.forms.specs.Calls.{fourOf}
 use Rattle.forms.specs.Steps.{found, keptAt}

@@ -17,7 +17,8 @@ use Rattle.emissions.specs.declared.Supply.the-variants.{Combined, GridDefault,
 use Rattle.emissions.specs.declared.Loss.{Loss}
 use Rattle.emissions.specs.declared.Loss.the-variants.{Nothing, Measured, Default20, Default3}
 use Rattle.forms.specs.Templates.{closing}
-use Rattle.forms.specs.Form.{MeterForm, whole, single, kindText, sideText, supplyText, lossText, meterText, fuelText, allText, All, FuelWritable, SupplyWritable, LossWritable, MeterWritable}
+use Rattle.rounding.specs.Lists.{All}
+use Rattle.forms.specs.Form.{MeterForm, whole, single, kindText, sideText, supplyText, lossText, meterText, fuelText, allText, FuelWritable, SupplyWritable, LossWritable, MeterWritable}
 use Rattle.forms.specs.Reading.{oneOf, manyOf, kinds, sides, supplies, losses, meters, fuels}
 use Rattle.forms.proofs.Tables.{Stands, one-stands, this-row, later-row, many-stand, many-read-back}
 

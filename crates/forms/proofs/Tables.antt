@@ -8,7 +8,8 @@ use lib.ListN.{length, length-append}
 use Rattle.text.specs.Template.{filled, placesOf, bound, Writable, Read, onRead, mapRead, numbersOf, templateIn}
 use Rattle.text.specs.declared.Numbers.{Numbers}
 use Rattle.text.proofs.Templates.{Parted, template-reads-back, template-stands}
-use Rattle.forms.specs.Form.{allText, All}
+use Rattle.rounding.specs.Lists.{All}
+use Rattle.forms.specs.Form.{allText}
 use Rattle.forms.specs.Reading.{Row, orElse, oneOf, followed, manyWithin, manyOf}
 
 -- The text of what was read stands at the start of t, up to the rest, and can be written.

@@ -3,6 +3,7 @@ use Prim.Native.Nat.{ℕ, _^_, _<_, _≤_}
 use mathlib.Core.Path.{_≡_}
 use mathlib.Core.List.{List, [], _∷_, _++_}
 use lib.ListN.{length}
+use Rattle.rounding.specs.Lists.{All}
 use Rattle.text.specs.Template.{filled}
 use Rattle.metering.specs.declared.Sign.{Sign}
 use Rattle.metering.specs.declared.Sign.the-variants.{Plus, Minus}
@@ -93,10 +94,6 @@ formText f = openText f ++ closing
 
 abbrev pub Decimal : ℕ → Type 0
 Decimal n = n < 10 ^ 18
-
-abbrev pub All : {A : Type 0} → (A → Type 0) → List A → Type 0
-All P [] = Unit {0}
-All P (a ∷ rest) = P a × All P rest
 
 abbrev pub FuelWritable : FuelLine → Type 0
 FuelWritable l = Decimal (l .quantity) × Decimal (l .ncv) × Decimal (l .factor)

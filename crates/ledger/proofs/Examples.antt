@@ -498,6 +498,5 @@ are-damaged = (refl, refl)
 pub no-calls-leave-it : (g : EnteredGrid) → gridIntact (Entered g) ≡ false → (calls : List Call) → afterCalls step newLedger calls ≡ gridOnly g → ⊥
 no-calls-leave-it g d calls e =
     let h = records-show calls in
-    let k : GridSound (Entered g) =
-    subst GridSound (sym (ap (λ (b : ReportInput). b .grid) (h .same)) ∙ ap (λ (l : Ledger). l .grid .grid) e) (h .accepted .grid) in
-    true≢false (sym (sound-intact (Entered g) k) ∙ d)
+    let same = sym (ap (λ (b : ReportInput). b .grid) (h .same)) ∙ ap (λ (l : Ledger). l .grid .grid) e in
+    true≢false (sym (sound-intact (Entered g) (subst GridSound same (h .accepted .grid))) ∙ d)

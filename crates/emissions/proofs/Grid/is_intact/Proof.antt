@@ -8,13 +8,14 @@ use Rattle.emissions.specs.declared.EnteredGrid.{EnteredGrid}
 use Rattle.emissions.specs.declared.GridJudged.{GridJudged}
 use Rattle.emissions.specs.declared.Grid.{Grid}
 use Rattle.emissions.specs.declared.Grid.the-variants.{Entered}
+use Rattle.emissions.proofs.Grids.{judged-as}
 use Rattle.emissions.proofs.Grid.is_intact.Statement.{statement}
 use Rattle.emissions.proofs.Grid.is_intact.Tie as tie
 
 -- The grid that was found to be entered, and what its entry was judged to leave.
 judged-intact : {grid : Grid} {g : EnteredGrid} {j k : GridJudged} → grid ≡ Entered g → gridMeaning j ≡ gridJudged (g .entry) → j ≡ k
     → gridIntact grid ≡ sameRoundings g (gridMeaning k)
-judged-intact {grid} {g} e h q = ap gridIntact e ∙ ap (sameRoundings g) (sym h ∙ ap gridMeaning q)
+judged-intact {grid} {g} e h q = ap gridIntact e ∙ ap (sameRoundings g) (judged-as h q)
 
 enum-known-self : tie.Need-enum-known-self
 enum-known-self c = search needs

@@ -1,16 +1,10 @@
 -- `records::GridRecord::entered` meets its contract: what the entry was judged to leave, or its refusal. Assumes nothing.
 use borrow.Author.Needs.{needs}
-use mathlib.Core.Path.{_≡_, sym, ap, _∙_}
-use Rattle.rounding.specs.Outcome.{Outcome}
-use Rattle.emissions.specs.Answers.{gridMeaning, gridRefusal}
-use Rattle.emissions.specs.declared.EnteredGrid.{EnteredGrid}
-use Rattle.emissions.specs.declared.GridJudged.{GridJudged}
+use mathlib.Core.Path.{ap, _∙_}
+use Rattle.emissions.specs.Answers.{gridRefusal}
+use Rattle.emissions.proofs.Grids.{judged-as}
 use Rattle.records.proofs.GridRecord.entered.Statement.{statement}
 use Rattle.records.proofs.GridRecord.entered.Tie as tie
-
--- The outcome of the case that was found.
-found : {o : Outcome EnteredGrid} {j k : GridJudged} → gridMeaning j ≡ o → j ≡ k → o ≡ gridMeaning k
-found h e = sym h ∙ ap gridMeaning e
 
 judged-requires : tie.Need-judged-requires
 judged-requires c κs = search needs
@@ -26,12 +20,12 @@ refusal-requires c κs = search needs
 
 returns : tie.Need-returns
 returns c =
-    let e = found (c .before .before .before .judged .ensures) (c .before .enum-told .given .1) in
+    let e = judged-as (c .before .before .before .judged .ensures) (c .before .enum-told .given .1) in
     (rw e, rw (e, c .refusal .ensures ∙ ap gridRefusal (c .before .enum-told .given .1)))
 
 returns-2 : tie.Need-returns-2
 returns-2 c =
-    let e = found (c .before .before .before .judged .ensures) (c .before .judged2 .given .1) in
+    let e = judged-as (c .before .before .before .judged .ensures) (c .before .judged2 .given .1) in
     (rw e, rw e)
 
 pub entered-spec : {M : Type 1} → statement M
