@@ -24,12 +24,12 @@ SUPPLIES = ('(combined) (%)', '(captive $) (none)', '(either $) (%)', '(griddefa
 
 
 def full_ledger() -> list[str]:
-    """A grid of margins, 8 plants of 4 fuel lines on 4 sites, and 32 sources of 4 meters over all
-    supplies and losses."""
+    """A grid of margins, 8 plants of 4 fuel lines of all kinds on 4 sites, and 32 sources of 4
+    meters over all supplies and losses."""
     lines = ['(grid margins 1012400 612501 50 50 thermal)']
     for plant in range(8):
-        fuels = [f'(fuel {100_000 + 777 * plant + 31 * k} {43_000 + 13 * k} {74_100 - 7 * k})'
-                 for k in range(4)]
+        kinds = ('(fuel {} 43013 74093)', '(mass {} 8593)', '(volume {} 991 8587)')
+        fuels = [kinds[(plant + k) % 3].format(100_000 + 777 * plant + 31 * k) for k in range(4)]
         lines.append(f'(plant {plant} {plant % 4} {7_000_000 + 1_111 * plant} {" ".join(fuels)})')
     for source in range(32):
         side = ('project', 'leakage', 'baseline')[source % 3]

@@ -7,8 +7,17 @@
 enum side { PROJECT, LEAKAGE, BASELINE };
 enum supply_kind { COMBINED, GRID_DEFAULT, CAPTIVE, CAPTIVE_DEFAULT, EITHER };
 enum loss_kind { NOTHING, MEASURED, DEFAULT20, DEFAULT3 };
+enum fuel_kind { ENERGY, MASS, VOLUME };
 
-struct fuel_line { uint32_t quantity, ncv, factor; };
+struct fuel_line {
+    enum fuel_kind kind;
+    uint32_t quantity;
+    union {
+        struct { uint32_t ncv, factor; } energy;
+        struct { uint32_t carbon; } mass;
+        struct { uint32_t density, carbon; } volume;
+    };
+};
 struct plant { bool stands; uint8_t site, count; uint32_t generation; struct fuel_line lines[4]; };
 struct source { bool stands; uint8_t side, supply, site, loss; uint16_t measured; uint64_t energy; };
 struct margins { uint32_t operating, build; uint8_t operating_weight, build_weight; };
@@ -102,14 +111,22 @@ static void add(struct consumption *c, const struct source *s) {
     if (s->side == BASELINE) c->baseline += s->energy, c->baselines++; else c->project += s->energy, c->projects++;
 }
 
+static uint64_t line_milligrams(const struct fuel_line *l, bool up) {
+    uint64_t quantity = l->quantity;
+    switch (l->kind) {
+    case ENERGY: return divide(up, quantity * l->energy.ncv * l->energy.factor, 1000);
+    case MASS: return divide(up, quantity * l->mass.carbon * 1100, 3);
+    default: return divide(up, quantity * l->volume.density * l->volume.carbon * 11, 30);
+    }
+}
+
 static int captive_factor(const struct ledger *l, uint8_t site, bool up, uint64_t *factor) {
     uint64_t milligrams = 0, generation = 0;
     for (int i = 0; i < 8; i++) {
         const struct plant *p = &l->plants[i];
         if (!p->stands || p->site != site) continue;
         generation += p->generation;
-        for (int j = 0; j < p->count; j++)
-            milligrams += divide(up, (uint64_t)p->lines[j].quantity * p->lines[j].ncv * p->lines[j].factor, 1000);
+        for (int j = 0; j < p->count; j++) milligrams += line_milligrams(&p->lines[j], up);
     }
     if (generation < 1000) return 9;
     *factor = divide(up, milligrams, generation);
@@ -145,7 +162,14 @@ static int loss_of(const struct source *s, const struct consumption *c, bool up,
     }
 }
 
-static bool line_fits(const struct fuel_line *l) { return l->quantity <= 100000000 && l->ncv >= 1 && l->ncv <= 150000 && l->factor <= 200000; }
+static bool line_fits(const struct fuel_line *l) {
+    if (l->quantity > 100000000) return false;
+    switch (l->kind) {
+    case ENERGY: return l->energy.ncv >= 1 && l->energy.ncv <= 150000 && l->energy.factor <= 200000;
+    case MASS: return l->mass.carbon <= 10000;
+    default: return l->volume.density <= 2000 && l->volume.carbon <= 10000;
+    }
+}
 
 static bool grid_intact(const struct grid *g) {
     uint32_t up, down;
@@ -211,7 +235,7 @@ static struct grid_entry grid_of(uint32_t seed) {
 }
 
 static struct plant plant_of(uint32_t seed) {
-    struct fuel_line line = {1000 + seed % 1000, 43000, 74100};
+    struct fuel_line line = {.kind = ENERGY, .quantity = 1000 + seed % 1000, .energy = {43000, 74100}};
     struct plant p = {true, seed % 4, 4, 70000, {line, line, line, line}};
     return p;
 }

@@ -1,5 +1,5 @@
-// The program tally in plain C, as a programmer would write it by hand from document 01 and wish 1 of
-// document 02: no proofs. The speed of tally is measured beside it, and its branches guide the fuzzer. It
+// The program tally in plain C, as a programmer would write it by hand from document 01 and wishes 1 and 2
+// of document 02: no proofs. The speed of tally is measured beside it, and its branches guide the fuzzer. It
 // is no third opinion on the rules: its author had read tests/reference.py, so the two may share a
 // misreading. Comments in quotation marks are the papers' sentences; a bare number is a refusal.
 #include <stdbool.h>
@@ -21,9 +21,12 @@ static const u64 SIDE_GRAMS = 1000000000000000;
 enum side { PROJECT, LEAKAGE, BASELINE, SIDES };
 enum supply { COMBINED, GRID_DEFAULT, CAPTIVE, CAPTIVE_DEFAULT, EITHER };
 enum loss { NONE, MEASURED, DEFAULT20, DEFAULT3 };
+enum fuel_kind { ENERGY, MASS, VOLUME };
 
 struct meter { bool single, minus; u64 first, last; };
 struct source { bool stands; enum side side; enum supply supply; u64 site; enum loss loss; u64 measured, energy; };
+// Q, and V and C of an energy line, W of one by mass, the density and W of one by volume.
+struct fuel { enum fuel_kind kind; u64 quantity, calorific, content, density, carbon; };
 struct plant { bool stands; u64 site, generation, milligrams[2]; }; // of its lines, rounded down and up
 struct margin { u64 factor, weight; }; // in mg/kWh and in percent
 // As entered, by a stated factor or by two margins, and the combined margin rounded down and up.
@@ -132,16 +135,32 @@ static int enter_margins(struct ledger *l, struct grid g) {
     return OK;
 }
 
-static bool fuel_refused(const u64 f[3]) { return f[0] > 100000000 || f[1] < 1 || f[1] > 150000 || f[2] > 200000; }
+// "Q keeps its limit, and W above 10,000 or a density above 2,000 is refused 2".
+static bool fuel_refused(const struct fuel *f) {
+    if (f->quantity > 100000000) return true;
+    switch (f->kind) {
+    case ENERGY: return f->calorific < 1 || f->calorific > 150000 || f->content > 200000;
+    case MASS: return f->carbon > 10000;
+    default: return f->density > 2000 || f->carbon > 10000;
+    }
+}
 
-static int enter_plant(struct ledger *l, u64 number, struct plant p, u64 fuels[FUEL_LINES][3], u64 count) {
+// "By mass the line is Q × W × 1,100 ÷ 3 mg, by volume Q × density × W × 11 ÷ 30".
+static u64 fuel_milligrams(const struct fuel *f, bool up) {
+    switch (f->kind) {
+    case ENERGY: return divided(f->quantity * f->calorific * f->content, 1000, up);
+    case MASS: return divided(f->quantity * f->carbon * 1100, 3, up);
+    default: return divided(f->quantity * f->density * f->carbon * 11, 30, up);
+    }
+}
+
+static int enter_plant(struct ledger *l, u64 number, struct plant p, const struct fuel *fuels, u64 count) {
     if (number >= PLANTS || p.site >= SITES) return 1;
     if (count > FUEL_LINES || p.generation > 100000000) return 2;
     for (u64 i = 0; i < count; i++) {
-        if (fuel_refused(fuels[i])) return 2;
-        u64 product = fuels[i][0] * fuels[i][1] * fuels[i][2];
-        p.milligrams[0] += divided(product, 1000, false);
-        p.milligrams[1] += divided(product, 1000, true);
+        if (fuel_refused(&fuels[i])) return 2;
+        p.milligrams[0] += fuel_milligrams(&fuels[i], false);
+        p.milligrams[1] += fuel_milligrams(&fuels[i], true);
     }
     l->plants[number] = p;
     return OK;
@@ -322,6 +341,9 @@ static bool read_number(struct text *t, u64 *value) {
     return count >= 1 && count <= DIGITS && (*first != '0' || count == 1);
 }
 
+// The next figure of several.
+static bool read_next(struct text *t, u64 *value) { return skip(t, " ") && read_number(t, value); }
+
 // "a register is 8 lower-case hexadecimal digits, highest first"
 static bool read_register(struct text *t, u64 *value) {
     if (t->end - t->at < 8) return false;
@@ -377,6 +399,24 @@ static bool read_meter(struct text *t, struct meter *m) {
     return read(t, &m->first) && skip(t, " ") && read(t, &m->last) && skip(t, ")");
 }
 
+// "The forms are (fuel Q V C), (mass Q W) and (volume Q density W)".
+static bool read_fuel(struct text *t, struct fuel *f) {
+    *f = (struct fuel){0};
+    if (skip(t, "(fuel")) {
+        f->kind = ENERGY;
+        if (!read_next(t, &f->quantity) || !read_next(t, &f->calorific) || !read_next(t, &f->content)) return false;
+    } else if (skip(t, "(mass")) {
+        f->kind = MASS;
+        if (!read_next(t, &f->quantity) || !read_next(t, &f->carbon)) return false;
+    } else if (skip(t, "(volume")) {
+        f->kind = VOLUME;
+        if (!read_next(t, &f->quantity) || !read_next(t, &f->density) || !read_next(t, &f->carbon)) return false;
+    } else {
+        return false;
+    }
+    return skip(t, ")");
+}
+
 // The last bracket of a form, with nothing after it.
 static bool ends(struct text *t) { return skip(t, ")") && t->at == t->end; }
 
@@ -389,9 +429,8 @@ static bool read_mark(struct text *t, bool *hydro) {
 // "the two margins, then their weights"
 static int margins_line(struct ledger *l, struct text *t) {
     struct grid g = {.stands = true, .by_margins = true};
-    if (!read_number(t, &g.operating.factor) || !skip(t, " ") || !read_number(t, &g.build.factor)) return NO_FORM;
-    if (!skip(t, " ") || !read_number(t, &g.operating.weight)) return NO_FORM;
-    if (!skip(t, " ") || !read_number(t, &g.build.weight)) return NO_FORM;
+    if (!read_number(t, &g.operating.factor) || !read_next(t, &g.build.factor)) return NO_FORM;
+    if (!read_next(t, &g.operating.weight) || !read_next(t, &g.build.weight)) return NO_FORM;
     return read_mark(t, &g.hydro) ? enter_margins(l, g) : NO_FORM;
 }
 
@@ -404,14 +443,13 @@ static int grid_line(struct ledger *l, struct text *t) {
 
 static int plant_line(struct ledger *l, struct text *t) {
     struct plant p = {.stands = true};
-    u64 number, fuels[FUEL_LINES][3], count = 0;
-    if (!read_number(t, &number) || !skip(t, " ") || !read_number(t, &p.site)) return NO_FORM;
-    if (!skip(t, " ") || !read_number(t, &p.generation)) return NO_FORM;
-    for (; skip(t, " (fuel "); count++) {
-        u64 f[3];
-        if (!read_number(t, &f[0]) || !skip(t, " ") || !read_number(t, &f[1])) return NO_FORM;
-        if (!skip(t, " ") || !read_number(t, &f[2]) || !skip(t, ")")) return NO_FORM;
-        if (count < FUEL_LINES) memcpy(fuels[count], f, sizeof f);
+    struct fuel fuels[FUEL_LINES];
+    u64 number, count = 0;
+    if (!read_number(t, &number) || !read_next(t, &p.site) || !read_next(t, &p.generation)) return NO_FORM;
+    for (; skip(t, " "); count++) {
+        struct fuel f;
+        if (!read_fuel(t, &f)) return NO_FORM;
+        if (count < FUEL_LINES) fuels[count] = f;
     }
     return ends(t) ? enter_plant(l, number, p, fuels, count) : NO_FORM;
 }

@@ -21,9 +21,10 @@ from pathlib import Path
 from typing import NamedTuple
 
 import reference
-from reference import (DEMAND_3, SIDES, Figure, Ledger, Meter, Report, Source, exact_energy,
-                       exact_factor, exact_figure, exact_fuel_milligrams, exact_reduction,
-                       exact_side, exact_watt_hours, excess, numbers_of, rounds_up)
+from reference import (DEMAND_3, SIDES, EnergyLine, Figure, Ledger, Loss, MassLine, Meter, Plant,
+                       Report, Source, Supply, VolumeLine, exact_energy, exact_factor,
+                       exact_figure, exact_fuel_milligrams, exact_reduction, exact_side,
+                       exact_watt_hours, excess, numbers_of, rounds_up)
 
 ROOT = Path(__file__).resolve().parent.parent
 EXAMPLE = ROOT / 'examples' / 'site.txt'
@@ -114,8 +115,8 @@ STEPS = {
                    f'{shown(ENERGY_WH)} Wh', ('energy-conservative',)),
     'losses': Step(f'U = E × ({LOSS_UNITS:,} + T) ÷ {LOSS_UNITS:,}', AS_SIDE,
                    f'{shown(LOSSES_WH)} Wh', ('losses-conservative',)),
-    'line': Step('a fuel line of a captive plant, to mg', AS_SIDE, f'{shown(LINE_MG)} mg',
-                 ('line-conservative',)),
+    'line': Step('a fuel line of a captive plant, by its energy or its carbon, to mg', AS_SIDE,
+                 f'{shown(LINE_MG)} mg', ('line-conservative',)),
     'factor': Step("F: entered, or the weighted mean of two margins, or a default, or the site's "
                    'fuel lines in mg ÷ its generation in kWh', AS_SIDE,
                    f'{shown(FACTOR_MG_PER_KWH)} mg/kWh', ('chosen-sound',)),
@@ -212,8 +213,8 @@ def line_rows(ledger: Ledger, source: Source) -> list[Row]:
     for number, plant in sorted(ledger.plants.items()):
         if plant.site == source.supply.site:
             for at, line in enumerate(plant.fuel_lines):
-                exact = exact_fuel_milligrams(*line)
-                value = reference.fuel_milligrams(*line, rounds_up(source.side))
+                exact = exact_fuel_milligrams(line)
+                value = reference.fuel_milligrams(line, rounds_up(source.side))
                 rows.append(Row('line', f'plant {number}, fuel line {at + 1}', exact, value,
                                 excess(source.side, value, exact), LINE_MG, 'mg'))
     return rows
@@ -546,6 +547,28 @@ def refused_at(slip: Slip, path: Path) -> str:
     return f'{slip.name}: not refused'
 
 
+# Of each kind one that is not whole milligrams; the example has energy lines alone.
+LINES_OF_EACH_KIND = (EnergyLine(1, 1, 1), MassLine(1, 1), VolumeLine(1, 1, 1))
+
+
+def lines_standing(side: str) -> list[bool]:
+    """Whether the row of a line of each kind stands on a side."""
+    ledger = Ledger()
+    ledger.plants[0] = Plant(0, 0, list(LINES_OF_EACH_KIND))
+    source = Source(side, Supply('captive', 0), Loss('none'), [])
+    return [row.stands for row in line_rows(ledger, source)]
+
+
+def lines_with_slips() -> list[list]:
+    """The same with each slip of fuel lines, on two sides: first the one that it breaks."""
+    found = []
+    for slip in slips():
+        if slip.step == 'line':
+            with broken_by(slip):
+                found.append(sorted(lines_standing(side) for side in ('project', 'baseline')))
+    return found
+
+
 def numbers_as_text() -> list[str]:
     """Texts of this file that hold a number which is no part of a name or of a format."""
     tree = ast.parse(Path(__file__).read_text(encoding='utf-8'))
@@ -564,6 +587,10 @@ def self_test() -> int:
     eighths, sevenths = ([Fraction(n, d) for n in range(-d, d) if n] for d in (8, 7))
     wanted = {
         'no number stands as text': not numbers_as_text(),
+        'a row of a fuel line of each kind stands':
+            [lines_standing(side) for side in SIDES] == [3 * [True]] * len(SIDES),
+        'a slip of fuel lines lets no row stand, of any kind, on the side that it breaks':
+            lines_with_slips() == [[3 * [False], 3 * [True]]] * 4,
         'a row stands from nothing to below its limit':
             [lean for lean in (-1, 0, 1, 2) if row._replace(lean=lean).stands] == [0, 1],
         'a decimal that ends is shown in full': [Fraction(shown(n)) for n in eighths] == eighths,

@@ -36,13 +36,16 @@ def gap_by_factor() -> Case:
                 DEMAND_3._replace(factor_multiple=12), ('gap 0 by F and U, g',))
 
 
-def plants_with_32_lines(whole: int) -> list[str]:
-    """1,000 kWh at site 0 and 1,000 × whole + 969.032 mg of 32 lines. Each line
-    loses nearly 1 mg and the quotient nearly 1 mg/kWh: whole + 2 up, whole down."""
-    short = '(fuel 1 1 1)'
-    last = f'(fuel {1000 * (1000 * whole + 969) + 1} 1 1)'
+def plants_with_32_lines(short: str, last: str) -> list[str]:
+    """1,000 kWh at site 0, of 31 lines and a last one."""
     return ([f'(plant {n} 0 125 {" ".join(4 * [short])})' for n in range(7)]
             + [f'(plant 7 0 125 {" ".join(3 * [short] + [last])})'])
+
+
+def lines_of_energy(whole: int) -> list[str]:
+    """1,000 × whole + 969.032 mg of 32 lines. Each line loses nearly 1 mg and the
+    quotient nearly 1 mg/kWh: whole + 2 up, whole down."""
+    return plants_with_32_lines('(fuel 1 1 1)', f'(fuel {1000 * (1000 * whole + 969) + 1} 1 1)')
 
 
 def either(number: int, side: str, energy: int) -> str:
@@ -51,11 +54,20 @@ def either(number: int, side: str, energy: int) -> str:
 
 def one_source_on_32_lines() -> list[str]:
     """At the limit of E, F is 2 for an exact 0.969032."""
-    return ['(grid 0 thermal)', *plants_with_32_lines(0), either(0, 'project', 10**11)]
+    return ['(grid 0 thermal)', *lines_of_energy(0), either(0, 'project', 10**11)]
 
 
 def gap_by_energy() -> Case:
     return Case('gap, 11 -> 10', one_source_on_32_lines(),
+                DEMAND_3._replace(energy_multiple=10), ('gap 0 by F and U, g',))
+
+
+def gap_by_carbon() -> Case:
+    """Lines by volume, each 1/30 mg above whole milligrams: 976.07 mg of 32 lines, 1,007
+    where each is rounded up. At the limit of E, F is 2 for an exact 0.97607."""
+    return Case('gap by carbon, 11 -> 10',
+                ['(grid 0 thermal)', *plants_with_32_lines('(volume 1 1 11)', '(volume 1 1 2321)'),
+                 either(0, 'project', 10**11)],
                 DEMAND_3._replace(energy_multiple=10), ('gap 0 by F and U, g',))
 
 
@@ -90,7 +102,7 @@ def allowances() -> Case:
         either(30, 'leakage', energy_for(leakage, 101, -2)),
         either(31, 'baseline', energy_for(baseline, 99, 2))]
     return Case('allowance a source, 200 -> 150 kg',
-                ['(grid 100 thermal)', *plants_with_32_lines(99), *sources],
+                ['(grid 100 thermal)', *lines_of_energy(99), *sources],
                 DEMAND_3._replace(allowance_kilograms=150),
                 ('project, t', 'leakage, t', 'reduction, t'))
 
@@ -113,7 +125,7 @@ def side_by_tonnes() -> Case:
                 ('project, t', 'leakage, t', 'baseline, t'))
 
 
-CASES = (gap_by_factor, gap_by_energy, gap_by_mean, gap_by_weight, allowances,
+CASES = (gap_by_factor, gap_by_energy, gap_by_carbon, gap_by_mean, gap_by_weight, allowances,
          reduction_by_tonnes, side_by_tonnes)
 
 

@@ -15,8 +15,10 @@ from itertools import product
 from pathlib import Path
 
 import counterexamples
+import fuels
 import margins
 import reference
+from reference import EnergyLine, FuelLine, MassLine, VolumeLine
 
 LINES = 60
 
@@ -39,6 +41,16 @@ UNFIT_WEIGHTS = ((0, 0), (50, 49), (49, 50), (50, 51), (99, 0), (101, 0), (0, 10
                  (255, 101), (256, 100), (206, 150), (0, 356), (356, 0), (65_636, 0),
                  (65_586, 50), (2**32 + 50, 50), (LARGEST, 0), (LARGEST - 99, 200),
                  (LARGEST, LARGEST))
+# The kinds of fuel lines, with the limits of their figures; V is at least 1.
+FUEL_LIMITS = {EnergyLine: (100_000_000, 150_000, 200_000), MassLine: (100_000_000, 10_000),
+               VolumeLine: (100_000_000, 2_000, 10_000)}
+# Each part of a milligram that a line by carbon may have, and some that one of energy may have.
+PARTS_OF_MILLIGRAMS = (*(MassLine(1, W) for W in (1, 2, 3)),
+                       *(VolumeLine(1, 1, W) for W in range(1, 31)),
+                       *(EnergyLine(1, 1, C) for C in (1, 499, 500, 501, 999, 1_000)))
+# A line of each kind by 1/1000, 1/3 and 1/30 above whole milligrams, and as much below.
+LITTLE_ABOVE = (EnergyLine(1, 1, 1), MassLine(1, 2), VolumeLine(1, 1, 11))
+LITTLE_BELOW = (EnergyLine(999, 1, 1), MassLine(1, 1), VolumeLine(1, 1, 19))
 
 
 # Malformed lines: each takes a line and returns one that should not be a form,
@@ -74,6 +86,9 @@ DAMAGES = (
     lambda rng, line: replaced(rng, line, rb' [0-9]+', lambda m: b' '),
     lambda rng, line: replaced(rng, line, rb' [0-9]+', lambda m: b''),
     lambda rng, line: replaced(rng, line, rb' [a-z]+\)', lambda m: b')'),
+    lambda rng, line: replaced(rng, line, rb' [0-9]+\)', lambda m: m[:-1] + m),
+    lambda rng, line: replaced(rng, line, rb'\b(?:fuel|mass|volume)\b',
+                               lambda m: rng.choice((b'fuel', b'mass', b'volume'))),
     lambda rng, line: replaced(rng, line, rb'[a-z]', bytes.upper),
     lambda rng, line: replaced(rng, line, rb'[a-z]+', lambda m: m[:-1]),
     lambda rng, line: replaced(rng, line, rb'[0-9a-f]{8}', lambda m: m[1:]),
@@ -101,6 +116,19 @@ def captive_factors(ledger: reference.Ledger) -> list[int]:
     return [min(reference.captive_factor(ledger, site, up), FACTOR_LIMIT)
             for site, up in sorted(compared) or product(range(4), (False, True))
             if reference.generation_at(ledger, site) >= 1_000]
+
+
+def fuel_text(line: FuelLine) -> str:
+    word = next(word for word, kind in reference.FUEL_KINDS.items() if isinstance(line, kind))
+    return f'({word.decode()} {" ".join(map(str, line))})'
+
+
+def with_rest(lines: list[FuelLine], little: tuple, milligrams: int) -> list[FuelLine]:
+    """Lines taken from these, and one more of energy that brings their sum near so many: it
+    shows whether each line is rounded, or their sum."""
+    whole = sum(reference.fuel_milligrams(line, up=False) for line in lines)
+    rest = 1_000 * max(milligrams - whole, 0) + little[0].quantity
+    return [*lines, EnergyLine(min(rest, 100_000_000), 1, 1)]
 
 
 class Generator:
@@ -216,23 +244,22 @@ class Generator:
         first = self.rng.choice((*FIRST_WEIGHTS, self.rng.randint(0, 100)))
         return first, 100 - first
 
-    def fuel(self, generation: int) -> str:
+    def fuel(self, generation: int) -> FuelLine:
         """Burnt for so many kWh, mostly at less than 10,000,000 mg/kWh."""
+        kind, limits = self.rng.choice(list(FUEL_LIMITS.items()))
         if self.chance(0.2):
-            return (f'(fuel {self.number(10**8)} {self.number(149_999) + 1}'
-                    f' {self.number(200_000)})')
+            return kind(*map(self.number, limits))
         if self.chance(0.4):
-            return '(fuel {} {} {})'.format(*(self.rng.randint(1, 12) for _ in range(3)))
-        return (f'(fuel {self.rng.randint(0, generation)} {self.rng.randint(1, 43_000)}'
-                f' {self.rng.randint(0, 74_100)})')
+            return kind(*(self.rng.randint(1, 12) for _ in limits))
+        return kind(self.rng.randint(0, generation),
+                    *(self.rng.randint(1, limit // 3) for limit in limits[1:]))
 
-    def tight_fuels(self, generation: int) -> list[str]:
-        """Lines a little above or below whole milligrams, whose sum is near a whole
-        factor: it shows whether each line is rounded, or their sum."""
+    def tight_fuels(self, generation: int) -> list[FuelLine]:
+        """Their sum is near a whole factor."""
         near = generation * self.rng.randint(1, max(1, 90_000 // generation))
-        parts = self.rng.choice((1, 999))
-        rest = 1000 * (near - self.rng.randint(0, 4)) + parts
-        return 3 * [f'(fuel {parts} 1 1)'] + [f'(fuel {min(rest, 10**8)} 1 1)']
+        little = self.rng.choice((LITTLE_ABOVE, LITTLE_BELOW))
+        return with_rest([self.rng.choice(little) for _ in range(3)], little,
+                         near - self.rng.randint(0, 4))
 
     def plant(self) -> str:
         generation = self.rng.choice((500, 999, 1000, 7000, self.number(100_000_000)))
@@ -242,11 +269,11 @@ class Generator:
 
     def plant_at(self, number: int, site: int, generation: int) -> str:
         if generation > 0 and self.chance(0.3):
-            fuels = self.tight_fuels(generation)
+            lines = self.tight_fuels(generation)
         else:
             count = self.rng.choice((0, 1, 1, 2, 3, 4, 4, self.rng.randint(0, 6)))
-            fuels = [self.fuel(generation) for _ in range(count)]
-        return ' '.join([f'(plant {number} {site} {generation}', *fuels]) + ')'
+            lines = [self.fuel(generation) for _ in range(count)]
+        return ' '.join([f'(plant {number} {site} {generation}', *map(fuel_text, lines)]) + ')'
 
     def loss(self, supply: str) -> str:
         if self.chance(0.03):
@@ -375,6 +402,10 @@ FIELDS = (
     ('(plant 0 0 {})', 100_000_000), ('(plant 0 0 0 (fuel {} 1 0))', 100_000_000),
     ('(plant 0 0 0 (fuel 0 {} 0))', 1), ('(plant 0 0 0 (fuel 0 {} 0))', 150_000),
     ('(plant 0 0 0 (fuel 0 1 0) (fuel 0 1 {}))', 200_000),
+    ('(plant 0 0 0 (mass {} 0))', 100_000_000), ('(plant 0 0 0 (mass 100000000 {}))', 10_000),
+    ('(plant 0 0 0 (volume {} 0 0))', 100_000_000),
+    ('(plant 0 0 0 (mass 0 0) (volume 0 {} 10000))', 2_000),
+    ('(plant 0 0 0 (volume 0 0 0) (volume 100000000 0 {}))', 10_000),
     ('(source {} project (combined) (loss 0) (whole + 0 1))', 31),
     ('(source 0 project (captive {}) (none) (whole + 0 1))', 3),
     ('(source 0 project (either {}) (loss 0) (whole + 0 1))', 3),
@@ -393,6 +424,7 @@ def limits() -> bytes:
 # Within every limit, and with a decimal in every field that a form has.
 NUMBERED = ('(grid 1000000 hydro)', '(grid margins 1000001 500000 40 60 thermal)',
             '(plant 7 3 1000 (fuel 1000 43000 7410) (fuel 2000 1000 999))',
+            '(plant 5 3 2000 (mass 1000 859) (volume 200 991 8590) (volume 3 700 9))',
             '(plant 0 0 5' + 4 * ' (fuel 0 1 0)' + ')',
             '(source 31 project (captive 3) (none) (whole + 1000 500000))',
             '(source 1 baseline (either 3) (loss 1000) (whole + 0 90000) (whole - 200 300))',
@@ -441,8 +473,9 @@ def alone_at_zero() -> bytes:
     return joined(lines)
 
 
-def margins_in_lists() -> list[bytes]:
-    return [joined(margins.lines(name)) for name in margins.LISTS]
+def hand_worked() -> list[bytes]:
+    return [joined(line for line, _ in pairs)
+            for pairs in (*margins.LISTS.values(), *fuels.LISTS.values())]
 
 
 def margins_and_weights() -> bytes:
@@ -479,6 +512,33 @@ def largest_means() -> bytes:
     return joined(lines)
 
 
+def captive_on_both_sides() -> list[str]:
+    """Of each mg/kWh a report shows 1,000 g."""
+    return [f'(source {n} {side} (captive 0) (none) (whole + 0 1000000000))'
+            for n, side in enumerate(('project', 'baseline'))]
+
+
+def parts_of_milligrams() -> bytes:
+    """Beside whole milligrams that bring the sum below, to and above 1,000 mg/kWh."""
+    lines = captive_on_both_sides()
+    for line, near in product(PARTS_OF_MILLIGRAMS, (999_998, 999_999, 1_000_000)):
+        whole = near - reference.fuel_milligrams(line, up=False)
+        lines += [f'(plant 0 0 1000 {fuel_text(line)} (fuel {whole} 1 1000))', '(report)']
+    return joined(lines)
+
+
+def mixed_kinds() -> bytes:
+    """Up to four lines in every order of kinds, on both sides of whole milligrams."""
+    lines = captive_on_both_sides()
+    for little in (LITTLE_ABOVE, LITTLE_BELOW):
+        rows = [row for count in range(5) for row in product(little, repeat=count)]
+        rows += [with_rest(row, little, near) for row, near in product(
+            product(little, repeat=3), range(9_996, 10_001))]
+        for row in rows:
+            lines += [' '.join(['(plant 0 0 1000', *map(fuel_text, row)]) + ')', '(report)']
+    return joined(lines)
+
+
 def comparisons() -> bytes:
     """P against B and P' against B' one below, equal and one above."""
     lines = ['(plant 0 0 1000)']
@@ -495,13 +555,21 @@ def comparisons() -> bytes:
     return joined(lines)
 
 
+# Of each kind, at every limit; then 32 of which, over 800,000,000 kWh, are just within the
+# limit of the factor.
+LARGEST_LINES = (EnergyLine(10**8, 150_000, 200_000), MassLine(10**8, 10_000),
+                 VolumeLine(10**8, 2_000, 10_000))
+LARGEST_FACTORS = (EnergyLine(10**8, 50_000, 50_000), MassLine(68_181_818, 10_000),
+                   VolumeLine(34_090_909, 2_000, 10_000))
+
+
 def largest_report() -> bytes:
     """32 sources at every limit; 32 fuel lines first above the factor's limit, then
     at it, with a combined margin that either takes for baseline alone."""
     lines = ['(grid 9999999 thermal)']
-    for calorific, content in ((150_000, 200_000), (50_000, 50_000)):
-        fuel = f'(fuel 100000000 {calorific} {content})'
-        lines += [f'(plant {n} 3 100000000 {" ".join([fuel] * 4)})' for n in range(8)]
+    for line in (*LARGEST_LINES, *LARGEST_FACTORS):
+        row = ' '.join(4 * [fuel_text(line)])
+        lines += [f'(plant {n} 3 100000000 {row})' for n in range(8)]
         for supply in ('combined) (loss 5000', 'either 3) (loss 5000', 'captive 3) (none'):
             for side in reference.SIDES:
                 lines += [f'(source {n} {side} ({supply}) (whole + 0 100000000000))'
@@ -511,7 +579,8 @@ def largest_report() -> bytes:
 
 def counts() -> bytes:
     """Any count of fuel lines or meters is a form, up to the length of a line."""
-    lines = ['(plant 0 0 1000' + n * ' (fuel 1 1 1)' + ')' for n in range(20)]
+    lines = ['(plant 0 0 1000' + n * fuel + ')'
+             for fuel in (' (fuel 1 1 1)', ' (mass 1 1)', ' (volume 1 1 1)') for n in range(23)]
     lines += ['(source 0 project (combined) (loss 0)' + n * ' (whole + 0 1)' + ')'
               for n in range(17)]
     lines += ['(source 0 project (combined) (loss 0)' + n * ' (single - 00000000 00000000)' + ')'
@@ -577,6 +646,7 @@ def report_precedence() -> bytes:
 
 SAMPLES = ('(grid 812400 thermal)', '(grid 1 hydro)', '(grid margins 812401 20 100 0 thermal)',
            '(grid margins 7 8 49 51 hydro)', '(plant 0 1 7000 (fuel 1000 43000 74100))',
+           '(plant 1 1 5 (mass 90 8600) (fuel 1 2 3) (volume 20 991 8590))',
            '(source 10 project (captive 1) (none) (whole + 10 11))',
            '(source 0 leakage (either 1) (loss 20) (single - 3f800000 4cbebc20))',
            '(source 0 baseline (griddefault) (default3) (whole - 0 0))',
@@ -615,9 +685,9 @@ def boundary_inputs() -> list[bytes]:
         *(every_exponent(sign, side, readings) for sign in (0, 1)
           for side in ('project', 'baseline')
           for readings in ('00000000 {}', '{} 4cbebc20')),
-        registers_at_rest(), register_pairs(), limits(), *margins_in_lists(),
+        registers_at_rest(), register_pairs(), limits(), *hand_worked(),
         margins_and_weights(), means_by_captive(), largest_means(), generation_limits(),
-        alone_at_zero(), comparisons(),
+        parts_of_milligrams(), mixed_kinds(), alone_at_zero(), comparisons(),
         source_precedence(), report_precedence(), largest_report(), counts(),
         line_lengths(), *long_last_lines(), odd_bytes(), *malformed_by_place(),
         *(numbers_in_fields([value]) for value in WIDE), numbers_in_fields(ZEROS_BEFORE),
@@ -638,7 +708,7 @@ def words() -> set[str]:
 def write_for_fuzzer(folder: Path):
     """inputs/ has an input a file, and the file words the form that AFL++ reads."""
     inputs = [listing(), joined(NUMBERED), report_precedence(), joined(SAMPLES), b'(report)',
-              *margins_in_lists(),
+              *hand_worked(),
               *(counterexamples.text(make()) for make in counterexamples.CASES),
               *(random_input(seed, 12) for seed in range(20))]
     (folder / 'inputs').mkdir()
@@ -681,6 +751,35 @@ def means_of(ledger: reference.Ledger, report: reference.Report) -> set[tuple]:
 SOURCE_MEANS = 9  # 3 sides by combined and the two captive factors
 
 
+def deciding_lines(ledger: reference.Ledger, report: reference.Report) -> set[tuple]:
+    """Kind and direction of the fuel lines that a captive factor taken by a source shows:
+    were the line rounded the other way, the factor would be another."""
+    taken = {(source.supply.site, reference.rounds_up(source.side))
+             for number, source in ledger.sources.items()
+             if report.figures[number].option == 'captive'}
+    return {(type(line), up) for site, up in taken for line in lines_deciding(ledger, site, up)}
+
+
+def lines_deciding(ledger: reference.Ledger, site: int, up: bool) -> list[FuelLine]:
+    lines = [line for plant in reference.plants_at(ledger, site) for line in plant.fuel_lines]
+    milligrams = sum(reference.fuel_milligrams(line, up) for line in lines)
+    factor = reference.captive_factor(ledger, site, up)
+
+    def other_factor(line: FuelLine) -> int:
+        other = (milligrams - reference.fuel_milligrams(line, up)
+                 + reference.fuel_milligrams(line, not up))
+        return reference.factor_over(other, reference.generation_at(ledger, site), up)
+    return [line for line in lines if other_factor(line) != factor]
+
+
+DECIDING_LINES = 6  # 3 kinds by 2 directions
+
+# The answers that lines with these words should meet.
+ANSWERS_TO = {b'margins': {b'ok', b'refused 2', b'refused 14', b'refused 15'},
+              b'(mass': {b'ok', b'refused 1', b'refused 2', b'refused 14'},
+              b'(volume': {b'ok', b'refused 1', b'refused 2', b'refused 14'}}
+
+
 class Met:
     """What the inputs meet on the reference."""
 
@@ -690,7 +789,8 @@ class Met:
         self.sign_and_exponent = set()
         self.kinds = set()  # of the sources in reports given
         self.means = set()
-        self.of_margins = set()  # answers to lines with margins
+        self.lines = set()  # that decide a captive factor
+        self.answers_to = {word: set() for word in ANSWERS_TO}
         self.most_sources = 0
 
     def run(self, data: bytes) -> bytes:
@@ -702,8 +802,10 @@ class Met:
         self.inputs += 1
         self.reports += sum(refusals[n] for n in range(8, 14)) + answers.count(b'reduction')
         self.mostly_malformed += 3 * refusals[14] >= len(answers) > 0
-        self.of_margins |= {answer for line, answer in zip(reference.lines_of(data), answers)
-                            if b'margins' in line}
+        for line, answer in zip(reference.lines_of(data), answers):
+            for word in ANSWERS_TO:
+                if word in line:
+                    self.answers_to[word].add(answer)
         self.sign_and_exponent |= {
             int(register, 16) >> 23 for register in re.findall(rb'\b[0-9a-f]{8}\b', data)}
         return output
@@ -714,6 +816,7 @@ class Met:
         self.most_sources = max(self.most_sources, len(ledger.sources))
         self.kinds |= kinds_of(ledger, report)
         self.means |= means_of(ledger, report)
+        self.lines |= deciding_lines(ledger, report)
 
     def show(self, name: str):
         refusals = ', '.join(f'{n}: {self.refusals[n]}' for n in sorted(self.refusals))
@@ -721,13 +824,13 @@ class Met:
               f'{self.mostly_malformed} inputs with a third or more malformed')
         print(f'  refusals {refusals}')
         print(f'  in reports given, {len(self.kinds)} kinds of sources, {len(self.means)} of '
-              f'sources by a mean that is not whole, and up to {self.most_sources} sources')
+              f'sources by a mean that is not whole, {len(self.lines)} kinds and directions of '
+              f'fuel lines that decide a factor, and up to {self.most_sources} sources')
 
 
 def missing(at_random: Met, by_hand: Met) -> list[str]:
     """What the inputs should have met and did not."""
     refusals = {*range(1, 13), 14, 15}  # 13 cannot occur within the limits
-    of_margins = {b'ok', b'refused 2', b'refused 14', b'refused 15'}
     wanted = {
         'every refusal but 13, at random': set(at_random.refusals) == refusals,
         'every refusal but 13, by hand': set(by_hand.refusals) == refusals,
@@ -735,10 +838,14 @@ def missing(at_random: Met, by_hand: Met) -> list[str]:
         'a third of the lines malformed in a tenth of the inputs':
             at_random.mostly_malformed * 10 >= at_random.inputs,
         'every kind of source reported': len(at_random.kinds) == SOURCE_KINDS,
-        'margins accepted and refused 2, 14 and 15, at random': at_random.of_margins == of_margins,
-        'margins accepted and refused 2, 14 and 15, by hand': by_hand.of_margins == of_margins,
+        'every answer to margins and to lines by carbon, at random':
+            at_random.answers_to == ANSWERS_TO,
+        'every answer to margins and to lines by carbon, by hand': by_hand.answers_to == ANSWERS_TO,
         'every kind of source by a mean, at random': len(at_random.means) == SOURCE_MEANS,
         'every kind of source by a mean, by hand': len(by_hand.means) == SOURCE_MEANS,
+        'every kind of fuel line decides a factor, at random':
+            len(at_random.lines) == DECIDING_LINES,
+        'every kind of fuel line decides a factor, by hand': len(by_hand.lines) == DECIDING_LINES,
         'every sign and exponent of a register': len(by_hand.sign_and_exponent) == 512}
     return [what for what, met in wanted.items() if not met]
 

@@ -10,15 +10,23 @@ A grid entry has six arguments: its form, a stated factor (0) or margins (1), th
 F or O, then B, X and Y, which are 0 with a stated factor, and the mark, thermal (0)
 or hydro (1). A grid record that is stored has these six, and then the combined
 margin rounded up and rounded down, whatever they are.
+
+A fuel line has four arguments: its kind, energy (0), mass (1) or volume (2), and three
+figures, Q, V and C, or Q, W and one that is not read, or Q, density and W. So a plant
+entry has 20 arguments, and a plant record that is stored 21. The widest call is a
+source entry, with 23.
 """
 
 from collections import Counter
-from itertools import product
+from itertools import cycle, product
 
 import reference
-from generate import (EQUAL_ENERGIES, FIRST_WEIGHTS, LAST_REGISTER, SOURCE_KINDS, SOURCE_MEANS,
-                      SPECIAL_REGISTERS, SUPPLIES, captive_factors, kinds_of, means_of)
-from reference import SIDES, FuelLine, Loss, Margins, Meter, Plant, Source, Supply
+from generate import (DECIDING_LINES, EQUAL_ENERGIES, FIRST_WEIGHTS, FUEL_LIMITS,
+                      LARGEST_FACTORS, LARGEST_LINES, LAST_REGISTER, LITTLE_ABOVE, LITTLE_BELOW,
+                      PARTS_OF_MILLIGRAMS, SOURCE_KINDS, SOURCE_MEANS, SPECIAL_REGISTERS,
+                      SUPPLIES, captive_factors, deciding_lines, kinds_of, means_of, with_rest)
+from reference import (SIDES, EnergyLine, FuelLine, Loss, Margins, MassLine, Meter, Plant, Source,
+                       Supply, VolumeLine)
 
 FIELDS = 24
 (NEW, GRID, PLANT, SOURCE, DROP_PLANT, DROP_SOURCE, REPORT,
@@ -28,6 +36,7 @@ MARKS = ('thermal', 'hydro')
 LOSSES = ('none', 'loss', 'default20', 'default3')
 KINDS = ('whole', 'single')
 SIGNS = ('+', '-')
+FUEL_KINDS = (EnergyLine, MassLine, VolumeLine)
 
 LAST_U8 = 2**8 - 1
 LAST_U16 = 2**16 - 1
@@ -37,8 +46,11 @@ LIMIT = reference.ENERGY_LIMIT_WH  # and the limit of a reading
 FACTOR_LIMIT = reference.FACTOR_LIMIT
 
 # What fills the places beyond the count: refused where it is read.
-NO_LINE = FuelLine(LAST_U32, 0, LAST_U32)
-NO_METER = Meter('single', '-', 0x7FC00000, LAST_U32)
+NO_LINES = (EnergyLine(LAST_U32, 0, LAST_U32), MassLine(LAST_U32, LAST_U32),
+            VolumeLine(LAST_U32, LAST_U32, LAST_U32), EnergyLine(0, 0, 0))
+NO_METERS = 4 * (Meter('single', '-', 0x7FC00000, LAST_U32),)
+# The figure of a line by mass that is not read: within and beyond each limit of the others.
+UNREAD = (LAST_U32, 0, 1, 2_001, 10_001)
 
 NONE, DEFAULT20, DEFAULT3 = Loss('none'), Loss('default20'), Loss('default3')
 COMBINED, GRID_DEFAULT = Supply('combined'), Supply('griddefault')
@@ -61,13 +73,19 @@ def whole(last: int, first: int = 0, sign: str = '+') -> Meter:
     return Meter('whole', sign, first, last)
 
 
-def placed(items: tuple, filler) -> list:
-    return (list(items) + 4 * [filler])[:4]
+def placed(items: tuple, fillers: tuple) -> list:
+    """Four of them, with what fills their places where there are fewer."""
+    return [*items, *fillers[len(items):]][:4]
 
 
-def counted(items: tuple, count: int, filler) -> list:
+def counted(items: tuple, count: int, fillers: tuple) -> list:
     """The first `count`, where more than four are refused by their number."""
-    return (placed(items, filler) + max(count - 4, 0) * [filler])[:count]
+    return (placed(items, fillers) + max(count - 4, 0) * [fillers[0]])[:count]
+
+
+def fuel_fields(line: FuelLine, unread: int) -> tuple[int, ...]:
+    figures = (*line, unread) if isinstance(line, MassLine) else line
+    return (FUEL_KINDS.index(type(line)), *figures)
 
 
 def grid_fields(entered: int | Margins, mark: str) -> tuple[int, ...]:
@@ -101,6 +119,8 @@ class Calls:
         self.reports = self.given = self.damages = 0
         self.kinds = set()  # of the sources in reports given
         self.means = set()
+        self.lines = set()  # that decide a captive factor
+        self.unread = cycle(UNREAD)
         self.new()
 
     def add(self, fields: tuple, answer):
@@ -125,17 +145,25 @@ class Calls:
         return self.add_entry((GRID, *grid_fields(entered, mark)), ('grid',),
                               self.ledger.enter_grid(entered, mark))
 
-    def plant(self, number: int, site: int, generation: int, *lines: tuple, count=None):
-        fields, plant = plant_call(number, site, generation, lines, count)
+    def plant_call(self, number: int, site: int, generation: int, lines: tuple, count: int | None):
+        """The fields, and the plant with the lines that count."""
+        count = len(lines) if count is None else count
+        fields = [field for line in placed(lines, NO_LINES)
+                  for field in fuel_fields(line, next(self.unread))]
+        return ((number, site, generation, count, *fields),
+                Plant(site, generation, counted(lines, count, NO_LINES)))
+
+    def plant(self, number: int, site: int, generation: int, *lines: FuelLine, count=None):
+        fields, plant = self.plant_call(number, site, generation, lines, count)
         return self.add_entry((PLANT, *fields), ('plant', number),
                               self.ledger.enter_plant(number, plant))
 
     def source(self, number: int, side: str, supply: Supply, loss: Loss, *meters: Meter,
                count=None):
         count = len(meters) if count is None else count
-        source = Source(side, supply, loss, counted(meters, count, NO_METER))
+        source = Source(side, supply, loss, counted(meters, count, NO_METERS))
         fields = (*source_fields(number, source), count,
-                  *meter_fields(placed(meters, NO_METER)))
+                  *meter_fields(placed(meters, NO_METERS)))
         return self.add_entry((SOURCE, *fields), ('source', number),
                               self.ledger.enter_source(number, source))
 
@@ -161,6 +189,7 @@ class Calls:
             self.given += 1
             self.kinds |= kinds_of(self.ledger, answer)
             self.means |= means_of(self.ledger, answer)
+            self.lines |= deciding_lines(self.ledger, answer)
         return self.add(fields, answer)
 
     # Records stored as no call does
@@ -180,9 +209,9 @@ class Calls:
         self.mark(('grid',), self.ledger.enter_grid(entered, mark), as_kept)
         return self.add_report((STORED_GRID, *grid_fields(entered, mark), *stored))
 
-    def store_plant(self, number: int, site: int, generation: int, *lines: tuple, count=None,
+    def store_plant(self, number: int, site: int, generation: int, *lines: FuelLine, count=None,
                     stands: bool = True):
-        fields, plant = plant_call(number, site, generation, lines, count)
+        fields, plant = self.plant_call(number, site, generation, lines, count)
         if stands:
             self.mark(('plant', number), self.ledger.enter_plant(number, plant))
             self.ledger.plants[number] = plant
@@ -204,19 +233,16 @@ class Calls:
         return self.add_report((STORED_SOURCE, *fields))
 
 
-def plant_call(number: int, site: int, generation: int, lines: tuple, count: int | None):
-    """The fields, and the plant with the lines that count."""
-    count = len(lines) if count is None else count
-    lines = [FuelLine(*line) for line in lines]
-    fields = [figure for line in placed(lines, NO_LINE) for figure in line]
-    return ((number, site, generation, count, *fields),
-            Plant(site, generation, counted(lines, count, NO_LINE)))
-
-
 # 1. Lists made by hand
 
-BENCH_LINE = (1_000, 43_000, 74_100)
-LINE = (1, 1, 1)
+BENCH_LINE = EnergyLine(1_000, 43_000, 74_100)
+LINE = EnergyLine(1, 1, 1)
+ONE_OF_EACH = tuple(kind(*(1 for _ in limits)) for kind, limits in FUEL_LIMITS.items())
+
+
+def milligrams(whole: int) -> EnergyLine:
+    """A line of so many."""
+    return EnergyLine(whole, 1, 1_000)
 
 
 def around(limit: int, last: int) -> tuple[int, ...]:
@@ -246,11 +272,56 @@ def grid_and_plant_limits(calls: Calls):
     for generation in (0, *around(100_000_000, LAST_U32)):
         calls.plant(0, 0, generation, LINE)
         calls.report()
-    for at, limit in enumerate((100_000_000, 150_000, 200_000)):
-        for figure in (0, 1, *around(limit, LAST_U32)):
-            line = (*LINE[:at], figure, *LINE[at + 1:])
-            calls.plant(2, 0, 7_000, *(figure % 4) * [LINE], line)
+
+
+def with_figure(line: FuelLine, at: int, figure: int) -> FuelLine:
+    return type(line)(*line[:at], figure, *line[at + 1:])
+
+
+def fuel_limits(calls: Calls):
+    """Each figure of each kind at its limits, beside lines of any kinds, one at a time; then
+    Q at its limit beside the others at theirs."""
+    calls.source(0, 'project', captive(0), NONE, whole(1_000_003))
+    calls.source(1, 'baseline', captive(0), NONE, whole(1_000_003))
+    calls.plant(0, 0, 1_000)
+    for line, limits in zip(ONE_OF_EACH, FUEL_LIMITS.values()):
+        for at, limit in enumerate(limits):
+            for figure in (0, 1, *around(limit, LAST_U32), 65_535, 65_536, 65_536 + limit):
+                calls.plant(2, 0, 7_000, *(ONE_OF_EACH[1:] + ONE_OF_EACH)[:figure % 4],
+                            with_figure(line, at, figure))
+                calls.report()
+    for kind, limits in FUEL_LIMITS.items():
+        for figures in product(*((0, limit, limit + 1) for limit in limits)):
+            calls.plant(2, 0, 100_000_000, kind(*figures))
             calls.report()
+
+
+def parts_of_milligrams(calls: Calls):
+    """Beside whole milligrams that bring the sum below, to and above 1,000 mg/kWh; then lines
+    of all kinds in one plant."""
+    calls.source(0, 'project', captive(0), NONE, whole(1_000_000_000))
+    calls.source(1, 'baseline', captive(0), NONE, whole(1_000_000_000))
+    for line, near in product(PARTS_OF_MILLIGRAMS, (999_998, 999_999, 1_000_000)):
+        calls.plant(0, 0, 1_000, line, milligrams(near - reference.fuel_milligrams(line, False)))
+        calls.report()
+    for little in (LITTLE_ABOVE, LITTLE_BELOW):
+        for row, near in product(product(little, repeat=3), (9_997, 9_999, 10_000)):
+            calls.plant(0, 0, 1_000, *with_rest(row, little, near))
+            calls.report()
+
+
+def unread_figures(calls: Calls):
+    """What stands beyond the count, and the last figure of a line by mass, change nothing."""
+    calls.source(0, 'project', captive(0), NONE, whole(1_000_000_000))
+    lines = (MassLine(1, 2_727), VolumeLine(1, 910, 2_997), milligrams(101))  # 2,000,000 mg
+    beyond = (*NO_LINES, *ONE_OF_EACH, *LARGEST_LINES)
+    for count, line in product(range(4), beyond):
+        calls.plant(0, 0, 1_000, *lines[:count], *(4 - count) * [line], count=count)
+        calls.report()
+        calls.store_plant(0, 0, 1_000, *lines[:count], *(4 - count) * [line], count=count)
+    for at, _ in product(range(4), UNREAD):
+        calls.plant(0, 0, 1_000, *at * [LINE], MassLine(3, 909))
+        calls.report()
 
 
 # Of 8 bits each, that do not sum to 100; 356 is 100 in 8 bits.
@@ -284,8 +355,8 @@ def means(calls: Calls):
     """Round captive factors of 7 and of 7.5 mg/kWh; 1,000 g a mg/kWh."""
     for number, (side, supply) in enumerate(product(SIDES, (COMBINED, either(0), either(1)))):
         calls.source(number, side, supply, measured(0), whole(1_000_000_000))
-    calls.plant(0, 0, 1_000, (7_000, 1, 1_000))
-    calls.plant(1, 1, 1_000, (7_500, 1, 1_000))
+    calls.plant(0, 0, 1_000, milligrams(7_000))
+    calls.plant(1, 1, 1_000, milligrams(7_500))
     for pair, first in product(((5, 6), (6, 7), (7, 6), (7, 8), (8, 8), (9, 8)), (1, 50, 99)):
         calls.grid(Margins(*pair, first, 100 - first))
         calls.report()
@@ -326,8 +397,8 @@ def counts(calls: Calls):
     """Places beyond the count hold what would be refused."""
     calls.grid(1_000_000)
     for count in (0, 1, 2, 3, 4, 5, 6, 128, 200, LAST_U8):
-        calls.plant(7, 3, 1_000, *count % 5 * [(500_000, 1, 1)], count=count)
-        calls.plant(6, 3, 1_000, *4 * [LINE], count=count)
+        calls.plant(7, 3, 1_000, *count % 5 * [EnergyLine(500_000, 1, 1)], count=count)
+        calls.plant(6, 3, 1_000, *ONE_OF_EACH, LINE, count=count)
         calls.source(31, 'project', captive(3), NONE, *count % 5 * [whole(7)], count=count)
         calls.source(30, 'baseline', COMBINED, measured(0), *4 * [whole(9)], count=count)
         calls.report()
@@ -368,9 +439,9 @@ def every_supply_and_loss(calls: Calls):
 def generation_limits(calls: Calls):
     """9 and 10 at their limits; 10,000,000,000 mg is 10,000,000 mg/kWh."""
     calls.source(1, 'baseline', captive(0), NONE, whole(3))
-    full = (100_000_000, 1_000, 100)
+    full = EnergyLine(100_000_000, 1_000, 100)
     for generation, more in product((999, 1_000, 1_001), (0, 1, 999_999, 1_000_000)):
-        calls.plant(0, 0, generation, full, (more, 1, 1))
+        calls.plant(0, 0, generation, full, EnergyLine(more, 1, 1))
         calls.source(0, 'project', captive(0), NONE, whole(3))
         calls.report()
         calls.drop_source(0)
@@ -415,12 +486,12 @@ def comparisons(calls: Calls):
 def either_both_ways(calls: Calls):
     """Captive below, at and above the combined margin, and between it and the next:
     3 mg over 1,000 kWh is 1 up and 0 down."""
-    calls.plant(0, 0, 1_000, (7_000, 1, 1_000))  # 7 mg/kWh
+    calls.plant(0, 0, 1_000, milligrams(7_000))
     for margin, side in product((6, 7, 8), SIDES):
         calls.grid(margin)
         calls.source(0, side, either(0), measured(0), whole(1_000_000))
         calls.report()
-    calls.plant(0, 0, 1_000, (3_000, 1, 1))
+    calls.plant(0, 0, 1_000, EnergyLine(3_000, 1, 1))
     for margin, side in product((0, 1, 2), SIDES):
         calls.grid(margin)
         calls.source(0, side, either(0), measured(0), whole(1_000_000))
@@ -428,10 +499,10 @@ def either_both_ways(calls: Calls):
 
 
 def largest_report(calls: Calls):
-    """32 sources at every limit; 32 fuel lines first above the factor's limit, then
-    at it, with a combined margin that either takes for baseline alone."""
+    """32 sources at every limit; 32 fuel lines of each kind first above the factor's limit,
+    then at it, with a combined margin that either takes for baseline alone."""
     calls.grid(9_999_999)
-    for line in ((100_000_000, 150_000, 200_000), (100_000_000, 50_000, 50_000)):
+    for line in (*LARGEST_LINES, *LARGEST_FACTORS):
         for number in range(8):
             calls.plant(number, 3, 100_000_000, *4 * [line])
         for number in range(32):
@@ -465,7 +536,7 @@ def report_precedence(calls: Calls):
     calls.source(20, 'baseline', GRID_DEFAULT, DEFAULT20, whole(1_000))
     calls.source(5, 'leakage', GRID_DEFAULT, DEFAULT3, whole(1_000))
     for mend in (lambda: calls.grid(1, 'hydro'), lambda: calls.drop_source(5),
-                 lambda: calls.plant(0, 0, 999, (100_000_000, 1_000, 101)),
+                 lambda: calls.plant(0, 0, 999, EnergyLine(100_000_000, 1_000, 101)),
                  lambda: calls.plant(1, 0, 1), lambda: calls.plant(0, 0, 1_000),
                  lambda: calls.source(21, 'baseline', COMBINED, measured(0), whole(1)),
                  lambda: calls.drop_source(20),
@@ -487,8 +558,9 @@ def replacements(calls: Calls):
         calls.source(number, side, captive(0), NONE, whole(2_000_001 + number))
         calls.report()
     calls.grid(FACTOR_LIMIT + 1)
-    calls.plant(0, 0, 7_000, NO_LINE)
-    calls.report()
+    for line in NO_LINES:
+        calls.plant(0, 0, 7_000, line)
+        calls.report()
     calls.grid(0, 'hydro')
     calls.plant(0, 0, 7_000)
     calls.report()
@@ -512,14 +584,19 @@ def drops(calls: Calls):
     calls.report()
 
 
+# Each figure of each kind one above its limit, and V below its own
+DAMAGED_LINES = (*(with_figure(line, at, limit + 1)
+                   for line, limits in zip(ONE_OF_EACH, FUEL_LIMITS.values())
+                   for at, limit in enumerate(limits)), EnergyLine(1, 0, 1))
+
+
 def damaged_plants(calls: Calls):
     """Each figure beyond its limit. Nothing in a record that does not stand, or in
     lines beyond the count, is damage."""
     calls.source(4, 'project', captive(0), NONE, whole(5))
     for number, damage in enumerate((
             (4, 1_000), (LAST_U8, 1_000), (0, 100_000_001), (0, LAST_U32),
-            *((0, 1_000, *at * [LINE], line) for at in range(4)
-              for line in ((100_000_001, 1, 1), (1, 0, 1), (1, 150_001, 1), (1, 1, 200_001))))):
+            *((0, 1_000, *at * [LINE], line) for at in range(4) for line in DAMAGED_LINES))):
         calls.store_plant(number % 8, *damage)
         if number % 3 == 0:
             calls.drop_plant(number % 8)
@@ -529,7 +606,7 @@ def damaged_plants(calls: Calls):
         calls.store_plant(0, 0, 1_000, count=number % 2)
         calls.plant(0, 0, 1_000)
     for count in (0, 1, 4, 5, 200, LAST_U8):
-        calls.store_plant(5, 0, 1_000, *4 * [LINE], count=count)
+        calls.store_plant(5, 0, 1_000, *ONE_OF_EACH, LINE, count=count)
     calls.new()
     calls.report()
 
@@ -583,11 +660,11 @@ def damaged_grids(calls: Calls):
     calls.report()
 
 
-BY_HAND = (listing, grid_and_plant_limits, margins_limits, means, marks_of_margins,
-           source_limits, counts, registers, every_supply_and_loss, generation_limits,
-           alone_at_zero, comparisons, either_both_ways, largest_report, source_precedence,
-           report_precedence, replacements, drops, damaged_plants, damaged_sources,
-           damaged_grids)
+BY_HAND = (listing, grid_and_plant_limits, fuel_limits, parts_of_milligrams, unread_figures,
+           margins_limits, means, marks_of_margins, source_limits, counts, registers,
+           every_supply_and_loss, generation_limits, alone_at_zero, comparisons,
+           either_both_ways, largest_report, source_precedence, report_precedence, replacements,
+           drops, damaged_plants, damaged_sources, damaged_grids)
 
 
 # 2. Lists at random
@@ -704,23 +781,23 @@ class RandomCalls(Calls):
             return [max(near + self.numbers.below(3) - 1, 0) for _ in range(2)]
         return [self.number(FACTOR_LIMIT, LAST_U32) for _ in range(2)]
 
-    def fuel(self, generation: int) -> tuple[int, int, int]:
+    def fuel(self, generation: int) -> FuelLine:
         """Burnt for so many kWh, mostly at less than 10,000,000 mg/kWh."""
+        kind = self.pick(FUEL_KINDS)
+        limits = FUEL_LIMITS[kind]
         if self.chance(20):
-            return (self.number(100_000_000, LAST_U32), self.number(150_000, LAST_U32),
-                    self.number(200_000, LAST_U32))
+            return kind(*(self.number(limit, LAST_U32) for limit in limits))
         if self.chance(40):
-            return tuple(1 + self.numbers.below(12) for _ in range(3))
-        return (self.numbers.below(min(generation, 100_000_000) + 1),
-                1 + self.numbers.below(43_000), self.numbers.below(74_101))
+            return kind(*(1 + self.numbers.below(12) for _ in limits))
+        return kind(self.numbers.below(min(generation, 100_000_000) + 1),
+                    *(1 + self.numbers.below(limit // 3) for limit in limits[1:]))
 
-    def tight_fuels(self, generation: int) -> list[tuple[int, int, int]]:
-        """Lines a little above or below whole milligrams, whose sum is near a whole
-        factor: it shows whether each line is rounded, or their sum."""
+    def tight_fuels(self, generation: int) -> list[FuelLine]:
+        """Their sum is near a whole factor."""
         near = generation * (1 + self.numbers.below(max(1, 90_000 // generation)))
-        parts = self.pick((1, 999))
-        rest = 1_000 * (near - self.numbers.below(5)) + parts
-        return 3 * [(parts, 1, 1)] + [(min(rest, 100_000_000), 1, 1)]
+        little = self.pick((LITTLE_ABOVE, LITTLE_BELOW))
+        return with_rest([self.pick(little) for _ in range(3)], little,
+                         near - self.numbers.below(5))
 
     def random_plant(self):
         generation = self.pick((500, 999, 1_000, 7_000, self.number(100_000_000, LAST_U32)))
@@ -819,12 +896,16 @@ class NotMet(Exception):
 
 def check_met(by_hand: Calls, at_random: Calls):
     met = {'every kind of source is reported': len(by_hand.kinds) == SOURCE_KINDS,
-           'every kind of source by a mean is reported': len(by_hand.means) == SOURCE_MEANS}
+           'every kind of source by a mean is reported': len(by_hand.means) == SOURCE_MEANS,
+           'every kind of fuel line decides a factor up and down':
+               len(by_hand.lines) == DECIDING_LINES}
     for name, calls in (('by hand', by_hand), ('at random', at_random)):
         met[f'every refusal of 1 to 12 and 15 is met {name}'] = (
             set(calls.refusals) == {*range(1, 13), 15})
         met[f'a mean that is not whole is taken in each way {name}'] = (
             len({way for _, way in calls.means}) == 3)
+        met[f'every kind of fuel line decides a factor {name}'] = (
+            {kind for kind, _ in calls.lines} == {*FUEL_KINDS})
         met[f'damage is met {name}'] = calls.damages > 0
         met[f'a third of the reports {name} is given'] = calls.given * 3 >= calls.reports
     missing = [what for what, holds in met.items() if not holds]

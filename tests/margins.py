@@ -149,7 +149,3 @@ LISTS = {'mean both ways': BOTH_WAYS, 'refusals': REFUSALS, 'replaced': REPLACED
          'weights in order': WEIGHTS_IN_ORDER, 'defaults': DEFAULTS,
          'either at the mean': EITHER_AT_THE_MEAN,
          'either round the mean': EITHER_ROUND_THE_MEAN}
-
-
-def lines(name: str) -> list[str]:
-    return [line for line, _ in LISTS[name]]

@@ -1,5 +1,5 @@
-"""A second implementation of document 01 with wish 1 of document 02, to compare the
-programs tally and panel with.
+"""A second implementation of document 01 with wishes 1 and 2 of document 02, to compare
+the programs tally and panel with.
 
 Written from these papers alone, with an exact fraction wherever they have an
 exact value. Comments in quotation marks are the papers' sentences; a bare
@@ -144,26 +144,57 @@ def exact_energy(meters: list[Meter]) -> Fraction:
 # 4. Fuel lines
 
 
-class FuelLine(NamedTuple):
+# "A fuel line becomes one of three kinds": "energy, as now; carbon by mass (kg and W in
+# ten-thousandths); carbon by volume (litres, density in g a litre up to 2,000, W)".
+
+
+class EnergyLine(NamedTuple):
     quantity: int  # Q, mass or volume units
     net_calorific_value: int  # V, kJ a unit
     emission_factor: int  # C, mg CO2 a MJ
 
 
+class MassLine(NamedTuple):
+    quantity: int  # Q, kg
+    carbon: int  # W, ten-thousandths of the mass
+
+
+class VolumeLine(NamedTuple):
+    quantity: int  # Q, litres
+    density: int  # g a litre
+    carbon: int  # W, ten-thousandths of the mass
+
+
+FuelLine = EnergyLine | MassLine | VolumeLine
+
+# "from 44/12 in the fossil fuel combustion tool"
+CO2_OF_CARBON = Fraction(44, 12)
+
+
 def fuel_refused(line: FuelLine) -> bool:
-    """2: "Q above 100,000,000, V outside 1 to 150,000, or C above 200,000"."""
-    return (line.quantity > 100_000_000
-            or not 1 <= line.net_calorific_value <= 150_000
-            or line.emission_factor > 200_000)
+    """2, of a line of any kind."""
+    # "Q keeps its limit"
+    if line.quantity > 100_000_000:
+        return True
+    if isinstance(line, EnergyLine):
+        # "V outside 1 to 150,000, or C above 200,000"
+        return not 1 <= line.net_calorific_value <= 150_000 or line.emission_factor > 200_000
+    # "W above 10,000 or a density above 2,000 is refused 2"
+    return line.carbon > 10_000 or isinstance(line, VolumeLine) and line.density > 2_000
 
 
-def exact_fuel_milligrams(Q: int, V: int, C: int) -> Fraction:
-    # "Each fuel line of each plant at S gives Q × V × C ÷ 1,000 mg"
-    return Fraction(Q * V * C, 1000)
+def exact_fuel_milligrams(line: FuelLine) -> Fraction:
+    if isinstance(line, EnergyLine):
+        # "Each fuel line of each plant at S gives Q × V × C ÷ 1,000 mg"
+        return Fraction(line.quantity * line.net_calorific_value * line.emission_factor, 1000)
+    # "By mass the line is Q × W × 1,100 ÷ 3 mg, by volume Q × density × W × 11 ÷ 30": here
+    # from the grams of fuel and of the carbon in it
+    grams = line.quantity * (line.density if isinstance(line, VolumeLine) else 1000)
+    return 1000 * CO2_OF_CARBON * grams * Fraction(line.carbon, 10_000)
 
 
-def fuel_milligrams(Q: int, V: int, C: int, up: bool) -> int:
-    return rounded(exact_fuel_milligrams(Q, V, C), up)
+def fuel_milligrams(line: FuelLine, up: bool) -> int:
+    return rounded(exact_fuel_milligrams(line), up)
 
 
 # 5. The ledger: what stands after the calls so far
@@ -391,7 +422,7 @@ def factor_over(milligrams: int, generation: int, up: bool) -> int:
 
 def captive_factor(ledger: Ledger, site: int, up: bool) -> int:
     # "F is the sum of these rounded lines over the plants' summed generation in kWh"
-    milligrams = sum(fuel_milligrams(*line, up)
+    milligrams = sum(fuel_milligrams(line, up)
                      for plant in plants_at(ledger, site)
                      for line in plant.fuel_lines)
     return factor_over(milligrams, generation_at(ledger, site), up)
@@ -507,7 +538,7 @@ def exact_factor(ledger: Ledger, source: Source, figure: Figure) -> Fraction:
         return ledger.grid.combined_margin
     if figure.option != 'captive':
         return Fraction(figure.factor)  # fixed, so exact as it is
-    milligrams = sum(exact_fuel_milligrams(*line)
+    milligrams = sum(exact_fuel_milligrams(line)
                      for plant in plants_at(ledger, source.supply.site)
                      for line in plant.fuel_lines)
     return milligrams / generation_at(ledger, source.supply.site)
@@ -634,8 +665,10 @@ GRID_FORM = form(rb'\(grid (<number>) (thermal|hydro)\)')
 MARGINS_FORM = form(rb'\(grid margins (<number>) (<number>) (<number>) (<number>)'
                     rb' (thermal|hydro)\)')
 # "Any count of fuel lines or meters, none included, is a form; the entry judges it."
+# "The forms are (fuel Q V C), (mass Q W) and (volume Q density W)"
 PLANT_FORM = form(rb'\(plant (<number>) (<number>) (<number>)'
-                  rb'((?: \(fuel <number> <number> <number>\))*)\)')
+                  rb'((?: \((?:fuel <number> <number> <number>|mass <number> <number>'
+                  rb'|volume <number> <number> <number>)\))*)\)')
 SOURCE_FORM = form(rb'\(source (<number>) (project|leakage|baseline)'
                    rb' \((combined|griddefault|captive <number>|captivedefault|either <number>)\)'
                    rb' \((loss <number>|default20|default3|none)\)'
@@ -645,7 +678,7 @@ DROP_FORM = form(rb'\(drop (source|plant) (<number>)\)')
 REPORT_FORM = form(rb'\(report\)')
 
 # These take a form apart that one of the patterns above has already passed.
-FUEL_PARTS = re.compile(rb'\(fuel ([0-9]+) ([0-9]+) ([0-9]+)\)')
+FUEL_PARTS = re.compile(rb'\((fuel|mass|volume) ([0-9 ]+)\)')
 METER_PARTS = re.compile(rb'\((whole|single) ([+-]) ([0-9a-f]+) ([0-9a-f]+)\)')
 
 
@@ -653,6 +686,13 @@ def read_named(part: bytes) -> tuple:
     """A supply or a loss: its name, and its number if it carries one."""
     name, *number = part.split(b' ')
     return (name.decode(), *map(int, number))
+
+
+FUEL_KINDS = {b'fuel': EnergyLine, b'mass': MassLine, b'volume': VolumeLine}
+
+
+def read_fuel_line(word: bytes, figures: bytes) -> FuelLine:
+    return FUEL_KINDS[word](*map(int, figures.split(b' ')))
 
 
 def read_meter(kind: bytes, sign: bytes, first: bytes, last: bytes) -> Meter:
@@ -670,7 +710,7 @@ def margins_call(ledger: Ledger, parts: re.Match):
 
 
 def plant_call(ledger: Ledger, parts: re.Match):
-    lines = [FuelLine(*map(int, line)) for line in FUEL_PARTS.findall(parts[4])]
+    lines = [read_fuel_line(*line) for line in FUEL_PARTS.findall(parts[4])]
     return ledger.enter_plant(int(parts[1]), Plant(int(parts[2]), int(parts[3]), lines))
 
 

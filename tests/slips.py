@@ -16,6 +16,14 @@ class Slip(NamedTuple):
     new: str
 
 
+BY_MASS = 'divided(f->quantity * f->carbon * 1100, 3, up)'
+BY_VOLUME = 'divided(f->quantity * f->density * f->carbon * 11, 30, up)'
+LIMIT_BY_MASS = 'case MASS: return f->carbon > 10000;'
+LIMITS_BY_VOLUME = 'return f->density > 2000 || f->carbon > 10000;'
+READ_BY_MASS = '&f->quantity) || !read_next(t, &f->carbon)) return false;'
+READ_BY_VOLUME = '|| !read_next(t, &f->density) || !read_next(t, &f->carbon)) return false;'
+FUEL_END = '    return skip(t, ")");'
+
 SLIPS = (
     # The text
     Slip('a zero before other digits accepted', "(*first != '0' || count == 1)", 'true'),
@@ -94,6 +102,72 @@ SLIPS = (
          '!= 100) { l->grid = with_mean(g); return 15; }'),
     Slip('the mark of margins lost', 'return read_mark(t, &g.hydro) ?',
          'bool lost; return read_mark(t, &lost) ?'),
+    # Fuel by carbon content: milligrams
+    Slip('by mass divided by 30', BY_MASS, 'divided(f->quantity * f->carbon * 1100, 30, up)'),
+    Slip('by volume divided by 3', BY_VOLUME,
+         'divided(f->quantity * f->density * f->carbon * 11, 3, up)'),
+    Slip('by mass always down', BY_MASS, 'divided(f->quantity * f->carbon * 1100, 3, false)'),
+    Slip('by mass always up', BY_MASS, 'divided(f->quantity * f->carbon * 1100, 3, true)'),
+    Slip('by mass to nearest', BY_MASS, '(f->quantity * f->carbon * 2200 + 3) / 6'),
+    Slip('by volume always down', BY_VOLUME,
+         'divided(f->quantity * f->density * f->carbon * 11, 30, false)'),
+    Slip('by volume always up', BY_VOLUME,
+         'divided(f->quantity * f->density * f->carbon * 11, 30, true)'),
+    Slip('by volume to nearest', BY_VOLUME,
+         '(f->quantity * f->density * f->carbon * 11 + 15) / 30'),
+    Slip('44/12 rounded first', BY_MASS, 'f->quantity * f->carbon * divided(1100, 3, up)'),
+    Slip('grams of carbon by mass rounded first', BY_MASS,
+         'divided(divided(f->quantity * f->carbon, 10, up) * 11000, 3, up)'),
+    Slip('grams of carbon by volume rounded first', BY_VOLUME,
+         'divided(divided(f->quantity * f->density * f->carbon, 10000, up) * 11000, 3, up)'),
+    Slip('kg by volume rounded first', BY_VOLUME,
+         'divided(divided(f->quantity * f->density, 1000, up) * f->carbon * 1100, 3, up)'),
+    Slip('litres taken for kg', BY_VOLUME, BY_MASS),
+    Slip('the product by mass in 32 bits', BY_MASS,
+         'divided((uint32_t)(f->quantity * f->carbon * 1100), 3, up)'),
+    Slip('the product by volume in 32 bits', BY_VOLUME,
+         'divided((uint32_t)(f->quantity * f->density * f->carbon * 11), 30, up)'),
+    Slip('the first fuel line alone rounded up', 'fuel_milligrams(&fuels[i], true)',
+         'fuel_milligrams(&fuels[i], i == 0)'),
+    # Limits
+    Slip('Q by carbon not limited', 'if (f->quantity > 100000000) return true;',
+         'if (f->kind == ENERGY && f->quantity > 100000000) return true;'),
+    Slip('W of 10,001 by mass accepted', LIMIT_BY_MASS, 'case MASS: return f->carbon > 10001;'),
+    Slip('W of 10,000 by mass refused', LIMIT_BY_MASS, 'case MASS: return f->carbon >= 10000;'),
+    Slip('W of 0 by mass refused', LIMIT_BY_MASS,
+         'case MASS: return f->carbon < 1 || f->carbon > 10000;'),
+    Slip('W of 10,001 by volume accepted', LIMITS_BY_VOLUME,
+         'return f->density > 2000 || f->carbon > 10001;'),
+    Slip('W of 10,000 by volume refused', LIMITS_BY_VOLUME,
+         'return f->density > 2000 || f->carbon >= 10000;'),
+    Slip('a density of 2,001 accepted', LIMITS_BY_VOLUME,
+         'return f->density > 2001 || f->carbon > 10000;'),
+    Slip('a density of 2,000 refused', LIMITS_BY_VOLUME,
+         'return f->density >= 2000 || f->carbon > 10000;'),
+    Slip('a density of 0 refused', LIMITS_BY_VOLUME,
+         'return f->density < 1 || f->density > 2000 || f->carbon > 10000;'),
+    Slip('W narrowed to 16 bits', FUEL_END, '    f->carbon = (uint16_t)f->carbon;\n' + FUEL_END),
+    Slip('a density narrowed to 16 bits', FUEL_END,
+         '    f->density = (uint16_t)f->density;\n' + FUEL_END),
+    Slip('W and a density narrowed to 32 bits', FUEL_END,
+         '    f->carbon = (uint32_t)f->carbon, f->density = (uint32_t)f->density;\n' + FUEL_END),
+    Slip('a fifth fuel line passed over', 'if (count > FUEL_LINES || p.generation > 100000000)',
+         'if (count > FUEL_LINES) count = FUEL_LINES;\n    if (p.generation > 100000000)'),
+    Slip('a plant that is refused stored', 'if (fuel_refused(&fuels[i])) return 2;',
+         'if (fuel_refused(&fuels[i])) { l->plants[number] = p; return 2; }'),
+    # Forms
+    Slip('density and W exchanged', READ_BY_VOLUME,
+         '|| !read_next(t, &f->carbon) || !read_next(t, &f->density)) return false;'),
+    Slip('Q and W exchanged', READ_BY_MASS,
+         '&f->carbon) || !read_next(t, &f->quantity)) return false;'),
+    Slip('by volume read as by mass', 'f->kind = VOLUME;', 'f->kind = MASS;'),
+    Slip('by mass read as energy', 'f->kind = MASS;', 'f->kind = ENERGY;'),
+    Slip('a third figure by mass passed over', READ_BY_MASS,
+         READ_BY_MASS + ' read_next(t, &f->density);'),
+    Slip('by volume accepted without W', READ_BY_VOLUME,
+         '|| !read_next(t, &f->density)) return false; read_next(t, &f->carbon);'),
+    Slip('masses accepted', 'skip(t, "(mass")', '(skip(t, "(masses") || skip(t, "(mass"))'),
+    Slip('Volume accepted', 'skip(t, "(volume")', '(skip(t, "(Volume") || skip(t, "(volume"))'),
 )
 
 

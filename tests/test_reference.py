@@ -1,5 +1,5 @@
 """Document 01's listing, its bench table and hand-worked cases on the reference, with
-those of margins, which are document 02's.
+those of margins and of fuel by carbon content, which are document 02's.
 
 Prints each failure and, last, `N passed, M failed`; fails if M is not 0.
 """
@@ -8,10 +8,13 @@ import math
 import struct
 import sys
 from fractions import Fraction
+from itertools import product
 
+import fuels
 import margins
 import reference
-from reference import Refused, fuel_milligrams, reading_watt_hours, tally
+from reference import (EnergyLine, MassLine, Refused, VolumeLine, exact_fuel_milligrams,
+                       fuel_milligrams, reading_watt_hours, tally)
 
 LISTING = '''\
 (grid 812400 thermal)
@@ -78,11 +81,11 @@ def bench_table(checks: Checks):
     checks.equal('(d)', both_ways(0x80000000), (0, 0))
     checks.equal('(e) at', both_ways(0x4CBEBC20), (10**11, 10**11))
     checks.equal('(e) above', both_ways(0x4CBEBC21), (Refused(3), Refused(3)))
-    fuel = (1000, 43000, 74100)
-    checks.equal('(f)', [fuel_milligrams(*fuel, up) for up in (False, True)],
+    fuel = EnergyLine(1000, 43000, 74100)
+    checks.equal('(f)', [fuel_milligrams(fuel, up) for up in (False, True)],
                  [3_186_300_000] * 2)
     ledger = reference.Ledger()
-    ledger.enter_plant(0, reference.Plant(1, 7000, [reference.FuelLine(*fuel)]))
+    ledger.enter_plant(0, reference.Plant(1, 7000, [fuel]))
     checks.equal('(g)', [reference.captive_factor(ledger, 1, up) for up in (True, False)],
                  [455_186, 455_185])
     with_losses = [given.figures[0].energy_with_losses
@@ -196,13 +199,18 @@ def drops_and_replacement(checks: Checks):
                    'project 1 14 1/leakage 0 0 0/baseline 0 0 0/reduction -1')
 
 
-def margins_lists(checks: Checks):
+def hand_worked(checks: Checks, of: str, lists: dict):
     """Each line's answer by itself, so that a failure names its line."""
-    for name, pairs in margins.LISTS.items():
-        given = reference.answers('\n'.join(margins.lines(name)).encode())
+    for name, pairs in lists.items():
+        given = reference.answers('\n'.join(line for line, _ in pairs).encode())
         for at, ((line, expected), answer) in enumerate(zip(pairs, given, strict=True), 1):
-            checks.equal(f'margins, {name}, line {at}: {line}',
+            checks.equal(f'{of}, {name}, line {at}: {line}',
                          answer.decode().removesuffix('\n').replace('\n', '/'), expected)
+
+
+def hand_worked_lists(checks: Checks):
+    hand_worked(checks, 'margins', margins.LISTS)
+    hand_worked(checks, 'fuels', fuels.LISTS)
 
 
 def meters(checks: Checks):
@@ -302,14 +310,49 @@ def captive_supplies(checks: Checks):
     checks.equal('either, 3', options(3), [('combined', 3), ('captive', 1)])
 
 
+def fuel_lines(checks: Checks):
+    """Each line with its milligrams down, and up where they are not whole."""
+    rows = [
+        (EnergyLine(1, 1, 1), 0, 1), (EnergyLine(1, 1, 999), 0, 1), (EnergyLine(1, 1, 1000), 1),
+        (EnergyLine(0, 150_000, 200_000), 0), (EnergyLine(1, 150_000, 0), 0),
+        (EnergyLine(10**8, 150_000, 200_000), 3 * 10**15),
+        (MassLine(1, 1), 366, 367), (MassLine(1, 2), 733, 734), (MassLine(2, 1), 733, 734),
+        (MassLine(1, 3), 1_100), (MassLine(3, 1), 1_100),
+        (MassLine(1, 10_000), 3_666_666, 3_666_667), (MassLine(3, 10_000), 11_000_000),
+        (MassLine(0, 10_000), 0), (MassLine(10**8, 0), 0),
+        (MassLine(10**8, 10_000), 366_666_666_666_666, 366_666_666_666_667),
+        (VolumeLine(1, 1, 1), 0, 1), (VolumeLine(1, 1, 3), 1, 2), (VolumeLine(1, 1, 11), 4, 5),
+        (VolumeLine(1, 1, 19), 6, 7), (VolumeLine(1, 1, 30), 11), (VolumeLine(30, 1, 1), 11),
+        (VolumeLine(1, 30, 1), 11), (VolumeLine(1, 1000, 10_000), 3_666_666, 3_666_667),
+        (VolumeLine(3, 1000, 10_000), 11_000_000), (VolumeLine(0, 2_000, 10_000), 0),
+        (VolumeLine(10**8, 0, 10_000), 0), (VolumeLine(10**8, 2_000, 0), 0),
+        (VolumeLine(10**8, 2_000, 10_000), 733_333_333_333_333, 733_333_333_333_334)]
+    for line, down, *above in rows:
+        checks.equal(f'{line}', [fuel_milligrams(line, up) for up in (False, True)],
+                     [down, *(above or [down])])
+
+
+def carbon_formulas(checks: Checks):
+    """The reference goes by grams of carbon and 44/12; document 02 states one product and
+    one division."""
+    figures = (0, 1, 2, 7, 1_999, 10_000)
+    wrong = [(Q, W) for Q, W in product((*figures, 10**8), figures)
+             if exact_fuel_milligrams(MassLine(Q, W)) != Fraction(Q * W * 1_100, 3)]
+    checks.equal('by mass other than Q × W × 1,100 ÷ 3', wrong, [])
+    wrong = [(Q, density, W) for Q, density, W in product((*figures, 10**8), (0, 1, 991), figures)
+             if exact_fuel_milligrams(VolumeLine(Q, density, W))
+             != Fraction(Q * density * W * 11, 30)]
+    checks.equal('by volume other than Q × density × W × 11 ÷ 30', wrong, [])
+
+
 def rounded_lines(checks: Checks):
     """Each line is rounded, and then the quotient: over 1,000 kWh, 999.002 mg have
     lines of 1,002 up and 998 down, and 1,000.002 mg lines of 1,003 and 999."""
     for quantity in (997_001, 998_001):
         ledger = reference.Ledger()
-        lines = [reference.FuelLine(q, 1, 1) for q in (1, 1, quantity)]
+        lines = [EnergyLine(q, 1, 1) for q in (1, 1, quantity)]
         ledger.enter_plant(0, reference.Plant(0, 500, lines))
-        ledger.enter_plant(1, reference.Plant(0, 500, [reference.FuelLine(1, 1, 1999)]))
+        ledger.enter_plant(1, reference.Plant(0, 500, [EnergyLine(1, 1, 1999)]))
         checks.equal(f'rounded lines with {quantity}',
                      [reference.captive_factor(ledger, 0, up) for up in (True, False)], [2, 0])
 
@@ -494,6 +537,25 @@ def exact_either_of_margins(checks: Checks):
         checks.demand_3(name, ledger, given, True)
 
 
+def exact_fuels(checks: Checks):
+    """0.001, 733.33 and 4.03 mg of three kinds over 1,000 kWh, for 1,000 kWh: as many mg of a
+    side exactly, and of their sums 740 up and 737 down 1 and 0 mg/kWh."""
+    (ledger, given), = reports_of('\n'.join([
+        '(plant 0 0 1000 (fuel 1 1 1) (mass 1 2) (volume 1 1 11))',
+        grid_source(0, 'project', 1_000_000, 'captive 0', 'none'),
+        grid_source(1, 'baseline', 1_000_000, 'captive 0', 'none'), '(report)']))
+    milligrams = Fraction(2_212_103, 3_000)  # (3 + 2,200,000 + 12,100) ÷ 3,000
+    checks.equal('F of three kinds', [figure.factor for figure in given.figures.values()], [1, 0])
+    for side in ('project', 'baseline'):
+        checks.equal(f'exact {side} of three kinds', reference.exact_side(ledger, given, side),
+                     milligrams / 10**9)
+    checks.equal('gap of a project with three kinds', reference.gap(ledger, given, 0),
+                 1 - milligrams / 1_000)
+    checks.equal('gap of a baseline with three kinds', reference.gap(ledger, given, 1),
+                 milligrams / 1_000)
+    checks.demand_3('three kinds', ledger, given, True)
+
+
 def exact_energy_below_zero(checks: Checks):
     """A + meter at rest and a - meter that moved by less than a watt-hour."""
     (ledger, given), = reports_of('\n'.join([
@@ -537,10 +599,11 @@ def main() -> int:
     checks = Checks()
     checks.equal('listing', tally(LISTING.encode()).decode(), LISTING_OUTPUT)
     for part in (bench_table, registers, grid_and_plant_entries, source_entries,
-                 drops_and_replacement, margins_lists, meters, grid_defaults, default_losses,
-                 captive_supplies, rounded_lines, report_refusals, largest_side, text,
-                 lines_answered, exact_values, exact_options, exact_margins,
-                 exact_either_of_margins, exact_energy_below_zero, demand_3_can_fail):
+                 drops_and_replacement, hand_worked_lists, meters, grid_defaults, default_losses,
+                 captive_supplies, fuel_lines, carbon_formulas, rounded_lines, report_refusals,
+                 largest_side, text, lines_answered, exact_values, exact_options, exact_margins,
+                 exact_either_of_margins, exact_fuels, exact_energy_below_zero,
+                 demand_3_can_fail):
         part(checks)
     print(f'{checks.passed} passed, {checks.failed} failed')
     return 1 if checks.failed else 0

@@ -19,9 +19,10 @@ from pathlib import Path
 from typing import NamedTuple
 
 from counterexamples import register_above
-from ledger_vectors import call_vectors
+from generate import FUEL_LIMITS
+from ledger_vectors import UNREAD, call_vectors, fuel_fields
 import reference
-from reference import Meter
+from reference import EnergyLine, FuelLine, MassLine, Meter, VolumeLine
 
 ROOT = Path(__file__).resolve().parent.parent
 
@@ -107,33 +108,57 @@ def rounding_vectors() -> list[Vector]:
     return [Vector(case, quotient_answer(*case)) for case in cases]
 
 
-# 2. Fuel lines: direction, Q, V, C
+# 2. Fuel lines: direction, kind, and three figures, of which the last of a line by mass is not read
 
-FUEL_LIMITS = (100_000_000, 150_000, 200_000)
+BENCH_LINES = (EnergyLine(1_000, 43_000, 74_100), MassLine(1_000, 8_590),
+               VolumeLine(1_000, 991, 8_590))
 
 
-def fuel_answer(direction: int, Q: int, V: int, C: int) -> str:
-    if reference.fuel_refused(reference.FuelLine(Q, V, C)):
+def fuel_answer(direction: int, line: FuelLine) -> str:
+    if reference.fuel_refused(line):
         return 'refused 2'
-    return str(reference.fuel_milligrams(Q, V, C, up=direction == 0))
+    return str(reference.fuel_milligrams(line, up=direction == 0))
 
 
-def fuel_lines(numbers: Numbers) -> list[tuple[int, int, int]]:
-    bench = (1_000, 43_000, 74_100)
-    lines = [bench]
-    for at, limit in enumerate(FUEL_LIMITS):  # one figure at its edges, beside two of the bench
-        for value in (0, 1, 2, limit - 1, limit, limit + 1, 2**31, LAST_U32):
-            lines.append((*bench[:at], value, *bench[at + 1:]))
-    lines += product(*((0, 1, limit, limit + 1) for limit in FUEL_LIMITS))
-    lines += product(*((limit, LAST_U32) for limit in FUEL_LIMITS))
-    lines += [(1, 1, C) for C in (499, 500, 501, 999, 1_000, 1_001, 1_999, 2_000, 2_001)]
-    lines += [tuple(numbers.of_any_size(limit) + 1 for limit in FUEL_LIMITS) for _ in range(90)]
-    return lines + [tuple(numbers.of_any_size(2**32) for _ in FUEL_LIMITS) for _ in range(20)]
+def fuel_vector(direction: int, line: FuelLine, unread: int) -> Vector:
+    return Vector((direction, *fuel_fields(line, unread)), fuel_answer(direction, line))
+
+
+def edge_lines(bench: FuelLine) -> list[FuelLine]:
+    """One figure at its edges, beside the others of the bench; then all at theirs."""
+    kind, limits = type(bench), FUEL_LIMITS[type(bench)]
+    figures = []
+    for at, limit in enumerate(limits):
+        for value in (0, 1, 2, limit - 1, limit, limit + 1, 65_535, 65_536, 65_536 + limit, 2**31,
+                      LAST_U32):
+            figures.append((*bench[:at], value, *bench[at + 1:]))
+    figures += product(*((0, 1, limit, limit + 1) for limit in limits))
+    figures += product(*((limit, LAST_U32) for limit in limits))
+    return [bench, *(kind(*each) for each in figures)]
+
+
+def random_lines(numbers: Numbers, kind: type) -> list[FuelLine]:
+    limits = FUEL_LIMITS[kind]
+    return [*(kind(*(numbers.of_any_size(limit) + 1 for limit in limits)) for _ in range(90)),
+            *(kind(*(numbers.of_any_size(2**32) for _ in limits)) for _ in range(20))]
+
+
+def fuel_lines(numbers: Numbers) -> list[FuelLine]:
+    """Also each part of a milligram that a line by carbon may have."""
+    lines = [EnergyLine(1, 1, C) for C in (499, 500, 501, 999, 1_000, 1_001, 1_999, 2_000, 2_001)]
+    lines += [MassLine(1, W) for W in range(1, 7)]
+    lines += [VolumeLine(1, 1, W) for W in range(1, 61)]
+    for bench in BENCH_LINES:
+        lines += [*edge_lines(bench), *random_lines(numbers, type(bench))]
+    return lines
 
 
 def fuel_vectors() -> list[Vector]:
-    cases = in_both_directions(fuel_lines(Numbers(2)))
-    return [Vector(case, fuel_answer(*case)) for case in cases]
+    numbers = Numbers(2)
+    cases = [(line, numbers.pick(UNREAD)) for line in fuel_lines(numbers)]
+    cases += [(line, unread) for line in (MassLine(1, 1), MassLine(3, 1), MassLine(10**8, 10_000),
+                                          MassLine(1, 10_001)) for unread in UNREAD]
+    return [fuel_vector(*case) for case in in_both_directions(cases)]
 
 
 # 3. Readings: kind, and a count of watt-hours or a register's bits

@@ -11,6 +11,7 @@ use Rattle.text.specs.Register.{registerAt}
 use Rattle.text.specs.Word.{bytes}
 use Rattle.text.specs.Template.{pieceIn, numbersIn, templateIn}
 use Rattle.metering.specs.declared.Sign.the-variants.{Plus, Minus}
+use Rattle.fuel.specs.declared.FuelKind.the-variants.{Energy, Mass, Volume}
 use Rattle.emissions.specs.declared.CombinedMargin.the-variants.{Mean}
 use Rattle.emissions.specs.declared.GridKind.the-variants.{Thermal, Hydro}
 use Rattle.emissions.specs.declared.Side.the-variants.{Project, Leakage, Baseline}
@@ -28,7 +29,7 @@ read line = lineForm (bytes line)
 
 -- The five lines of the listing.
 pub listing : (read "(grid 812400 thermal)" ≡ some (grid 812400 Thermal))
-    × (read "(plant 0 1 7000 (fuel 1000 43000 74100))" ≡ some (plant 0 1 7000 (record { quantity = 1000; ncv = 43000; factor = 74100 } ∷ [])))
+    × (read "(plant 0 1 7000 (fuel 1000 43000 74100))" ≡ some (plant 0 1 7000 (record { kind = Energy 1000 43000 74100 } ∷ [])))
     × (read "(source 0 project (combined) (default20) (whole + 0 1000001))" ≡ some (source 0 Project Combined Default20 (whole Plus 0 1000001 ∷ [])))
     × (read "(source 1 baseline (captive 1) (none) (whole + 0 500003))" ≡ some (source 1 Baseline (Captive 1) Nothing (whole Plus 0 500003 ∷ [])))
     × (read "(report)" ≡ some report)
@@ -43,6 +44,12 @@ pub margins-entered : (read "(grid margins 1000001 500000 75 25 hydro)" ≡ some
 unfolding read callOf
 margins-entered = (refl, refl)
 
+-- "The forms are (fuel Q V C), (mass Q W) and (volume Q density W)": one plant may have lines of all kinds, which stand in the order written.
+pub kinds-mixed : read "(plant 0 1 7000 (volume 1200 965 8613) (fuel 1000 43000 74100) (mass 900 8540))"
+    ≡ some (plant 0 1 7000 (record { kind = Volume 1200 965 8613 } ∷ record { kind = Energy 1000 43000 74100 } ∷ record { kind = Mass 900 8540 } ∷ []))
+unfolding read
+kinds-mixed = refl
+
 -- "(drop source N), (drop plant N)": the number is as written, also where no entry can have it.
 pub drops : (read "(drop source 31)" ≡ some (dropSource 31)) × (read "(drop plant 999999999999999999)" ≡ some (dropPlant 999999999999999999))
 unfolding read
@@ -56,11 +63,13 @@ pub any-count : (read "(plant 0 1 7000)" ≡ some (plant 0 1 7000 []))
 unfolding read
 any-count = (refl, refl, refl)
 
--- No form: two spaces, also between the margins and their weights, a weight missing, a zero before other digits, 19 digits, an upper-case
--- register, a space at the end, the end missing, an empty line.
+-- No form: two spaces, also between the margins and their weights, a weight missing, a carbon line with a figure too many or too few, a zero
+-- before other digits, 19 digits, an upper-case register, a space at the end, the end missing, an empty line.
 pub no-forms : (read "(grid  812400 thermal)" ≡ none)
     × (read "(grid margins 5 7  50 50 thermal)" ≡ none)
     × (read "(grid margins 5 7 100 thermal)" ≡ none)
+    × (read "(plant 0 1 7000 (mass 900 965 8540))" ≡ none)
+    × (read "(plant 0 1 7000 (volume 1200 8613))" ≡ none)
     × (read "(grid 0812400 thermal)" ≡ none)
     × (read "(drop plant 1000000000000000000)" ≡ none)
     × (read "(source 0 project (combined) (none) (single + 3F800000 42f6e979))" ≡ none)
@@ -68,7 +77,7 @@ pub no-forms : (read "(grid  812400 thermal)" ≡ none)
     × (read "(report" ≡ none)
     × (read "" ≡ none)
 unfolding read
-no-forms = (refl, refl, refl, refl, refl, refl, refl, refl, refl)
+no-forms = (refl, refl, refl, refl, refl, refl, refl, refl, refl, refl, refl)
 
 -- "14 .. a line above 256 bytes without its LF": a form's text of 256 bytes, and one of a byte more.
 abbrev pub longText : String → List ℕ

@@ -14,7 +14,9 @@ use Rattle.metering.specs.Energy.{judgedReadings, judgedMeters}
 use Rattle.metering.specs.declared.Meter.{Meter}
 use Rattle.metering.specs.declared.MetersJudged.the-variants as metersJudged
 use Rattle.rounding.specs.declared.Direction.{Direction}
-use Rattle.fuel.specs.Fuel.{noLine, withinLimits}
+use Rattle.fuel.specs.Fuel.{noLine, kindFits, withinLimits}
+use Rattle.fuel.specs.declared.FuelKind.{FuelKind}
+use Rattle.fuel.specs.declared.FuelKind.the-variants.{Energy, Mass, Volume}
 use Rattle.fuel.specs.declared.FuelLine.{FuelLine}
 use Rattle.rounding.specs.Outcome.{Outcome, refused, given, refuseUnless}
 use Rattle.emissions.specs.Factor.{factorLimit, direction}
@@ -36,7 +38,7 @@ use Rattle.records.specs.declared.SourceEntry.{SourceEntry}
 use Rattle.ledger.specs.declared.Ledger.{Ledger}
 use Rattle.ledger.proofs.Entries.{plant-facts, source-facts, drop-facts}
 use Rattle.forms.specs.Form.{Form, grid, margins, plant, source, dropSource, dropPlant, report}
-use Rattle.forms.specs.Calls.{fourOf, callOf, atMost, byteField, fittedMargin, fittedGrid, fittedSupply, fittedLoss, fittedLine, fittedPlant, fittedSource, fitted}
+use Rattle.forms.specs.Calls.{fourOf, callOf, atMost, byteField, fittedMargin, fittedGrid, fittedSupply, fittedLoss, fittedFuelKind, fittedLine, fittedPlant, fittedSource, fitted}
 
 -- ---- one number
 
@@ -125,15 +127,25 @@ grid-same g =
 
 -- ---- a plant
 
+fuel-kind-same : (k : FuelKind) → kindFits (fittedFuelKind k) ≡ kindFits k
+fuel-kind-same (Energy Q NCV C) =
+    rw (
+      same-limit 4294967295 100000000 Q (omega arith),
+      same-start 4294967295 1 NCV (omega arith),
+      same-limit 4294967295 150000 NCV (omega arith),
+      same-limit 4294967295 200000 C (omega arith),
+    )
+fuel-kind-same (Mass Q W) = rw (same-limit 4294967295 100000000 Q (omega arith), same-limit 4294967295 10000 W (omega arith))
+fuel-kind-same (Volume Q density W) =
+    rw (
+      same-limit 4294967295 100000000 Q (omega arith),
+      same-limit 4294967295 2000 density (omega arith),
+      same-limit 4294967295 10000 W (omega arith),
+    )
+
 line-same : (l : FuelLine) → withinLimits (fittedLine l) ≡ withinLimits l
 unfolding withinLimits
-line-same l =
-    rw (
-      same-limit 4294967295 100000000 (l .quantity) (omega arith),
-      same-start 4294967295 1 (l .ncv) (omega arith),
-      same-limit 4294967295 150000 (l .ncv) (omega arith),
-      same-limit 4294967295 200000 (l .factor) (omega arith),
-    )
+line-same l = fuel-kind-same (l .kind)
 
 lines-same : (c : ℕ) (ls : List FuelLine) → allWithinLimits (take c (map fittedLine ls)) ≡ allWithinLimits (take c ls)
 unfolding allWithinLimits
@@ -141,17 +153,31 @@ lines-same zero ls = refl
 lines-same (suc c) [] = refl
 lines-same (suc c) (l ∷ ls) = rw (line-same l, lines-same c ls)
 
+fuel-kind-unchanged : (k : FuelKind) → kindFits k ≡ true → fittedFuelKind k ≡ k
+fuel-kind-unchanged (Energy Q NCV C) h =
+    let p = and-both (leb Q 100000000 && leb 1 NCV && leb NCV 150000) _ h in
+    let q = and-both (leb Q 100000000 && leb 1 NCV) _ (p .0) in
+    let r = and-both (leb Q 100000000) _ (q .0) in
+    rw (
+      unchanged 4294967295 100000000 Q (omega arith) (r .0),
+      unchanged 4294967295 150000 NCV (omega arith) (q .1),
+      unchanged 4294967295 200000 C (omega arith) (p .1),
+    )
+fuel-kind-unchanged (Mass Q W) h =
+    let p = and-both (leb Q 100000000) _ h in
+    rw (unchanged 4294967295 100000000 Q (omega arith) (p .0), unchanged 4294967295 10000 W (omega arith) (p .1))
+fuel-kind-unchanged (Volume Q density W) h =
+    let p = and-both (leb density 2000) _ h in
+    let q = and-both (leb Q 100000000) _ (p .1) in
+    rw (
+      unchanged 4294967295 100000000 Q (omega arith) (q .0),
+      unchanged 4294967295 2000 density (omega arith) (p .0),
+      unchanged 4294967295 10000 W (omega arith) (q .1),
+    )
+
 line-unchanged : (l : FuelLine) → withinLimits l ≡ true → fittedLine l ≡ l
 unfolding withinLimits
-line-unchanged l h =
-    let p = and-both (leb (l .quantity) 100000000 && leb 1 (l .ncv) && leb (l .ncv) 150000) _ h in
-    let q = and-both (leb (l .quantity) 100000000 && leb 1 (l .ncv)) _ (p .0) in
-    let r = and-both (leb (l .quantity) 100000000) _ (q .0) in
-    rw (
-      unchanged 4294967295 100000000 (l .quantity) (omega arith) (r .0),
-      unchanged 4294967295 150000 (l .ncv) (omega arith) (q .1),
-      unchanged 4294967295 200000 (l .factor) (omega arith) (p .1),
-    )
+line-unchanged l h = rw (fuel-kind-unchanged (l .kind) h)
 
 none-unchanged : (k m : ℕ) → map fittedLine (take k (replicate m noLine)) ≡ take k (replicate m noLine)
 none-unchanged zero m = refl

@@ -24,7 +24,7 @@ TakesBytes rows = All (λ r. 0 < length (r .template)) rows
 
 pub fuels-take : TakesBytes fuels
 unfolding fuels
-fuels-take = (omega arith, tt)
+fuels-take = (omega arith, (omega arith, (omega arith, tt)))
 
 pub meters-take : TakesBytes meters
 unfolding meters

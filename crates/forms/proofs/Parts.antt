@@ -7,6 +7,8 @@ use Rattle.text.specs.Digits.{leadingDigits, digitValue}
 use Rattle.text.specs.Template.{filled, placesOf, Read, pieceIn, numbersIn, templateIn}
 use Rattle.text.proofs.Templates.{Parted}
 use Rattle.metering.specs.declared.Sign.the-variants.{Plus, Minus}
+use Rattle.fuel.specs.declared.FuelKind.{FuelKind}
+use Rattle.fuel.specs.declared.FuelKind.the-variants.{Energy, Mass, Volume}
 use Rattle.fuel.specs.declared.FuelLine.{FuelLine}
 use Rattle.emissions.specs.declared.GridKind.{GridKind}
 use Rattle.emissions.specs.declared.GridKind.the-variants.{Thermal, Hydro}
@@ -18,7 +20,7 @@ use Rattle.emissions.specs.declared.Loss.{Loss}
 use Rattle.emissions.specs.declared.Loss.the-variants.{Nothing, Measured, Default20, Default3}
 use Rattle.forms.specs.Templates.{closing}
 use Rattle.rounding.specs.Lists.{All}
-use Rattle.forms.specs.Form.{MeterForm, whole, single, kindText, sideText, supplyText, lossText, meterText, fuelText, allText, FuelWritable, SupplyWritable, LossWritable, MeterWritable}
+use Rattle.forms.specs.Form.{MeterForm, whole, single, kindText, sideText, supplyText, lossText, meterText, fuelKindText, fuelText, allText, FuelKindWritable, FuelWritable, SupplyWritable, LossWritable, MeterWritable}
 use Rattle.forms.specs.Reading.{oneOf, manyOf, kinds, sides, supplies, losses, meters, fuels}
 use Rattle.forms.proofs.Tables.{Stands, one-stands, this-row, later-row, many-stand, many-read-back}
 
@@ -53,7 +55,9 @@ meter-stands =
 
 fuel-stands : (t : List ℕ) (r : Read FuelLine) → oneOf fuels t ≡ some r → Stands fuelText FuelWritable t r
 unfolding fuels placesOf filled
-fuel-stands = one-stands fuelText FuelWritable fuels ((λ l h m i n k. (refl, (h, i, k))), tt)
+fuel-stands =
+    one-stands fuelText FuelWritable fuels
+    ((λ l h m i n k. (refl, (h, i, k))), ((λ m h n k. (refl, (h, k))), ((λ l h m i n k. (refl, (h, i, k))), tt)))
 
 -- ---- a part's text is read as the part
 
@@ -96,10 +100,17 @@ meter-reads-back (single Plus m n) rest h =
 meter-reads-back (single Minus m n) rest h =
     later-row _ _ _ refl (later-row _ _ _ refl (later-row _ _ _ refl (this-row _ _ (m ∷ n ∷ []) rest (h .0, (h .1, tt)) tt)))
 
+fuel-kind-reads-back : (k : FuelKind) (rest : List ℕ) → FuelKindWritable k
+    → oneOf fuels (fuelKindText k ++ rest) ≡ some (record { value = record { kind = k }; rest = rest })
+unfolding fuels templateIn numbersIn pieceIn placesOf filled Parted leadingDigits digitValue
+fuel-kind-reads-back (Energy Q NCV C) rest h = this-row _ _ (Q ∷ NCV ∷ C ∷ []) rest (h .0, (h .1, (h .2, tt))) (refl, (refl, (refl, tt)))
+fuel-kind-reads-back (Mass Q W) rest h = later-row _ _ _ refl (this-row _ _ (Q ∷ W ∷ []) rest (h .0, (h .1, tt)) (refl, (refl, tt)))
+fuel-kind-reads-back (Volume Q density W) rest h =
+    later-row _ _ _ refl
+    (later-row _ _ _ refl (this-row _ _ (Q ∷ density ∷ W ∷ []) rest (h .0, (h .1, (h .2, tt))) (refl, (refl, (refl, tt)))))
+
 fuel-reads-back : (l : FuelLine) (rest : List ℕ) → FuelWritable l → oneOf fuels (fuelText l ++ rest) ≡ some (record { value = l; rest = rest })
-unfolding fuels placesOf filled Parted leadingDigits digitValue
-fuel-reads-back l rest h =
-    this-row _ _ (l .quantity ∷ l .ncv ∷ l .factor ∷ []) rest (h .0, (h .1, (h .2, tt))) (refl, (refl, (refl, tt)))
+fuel-reads-back l = fuel-kind-reads-back (l .kind)
 
 -- ---- lists of parts, up to the bracket that closes their form
 
@@ -119,8 +130,14 @@ pub fuels-read-back : (lines : List FuelLine) → All FuelWritable lines
 unfolding oneOf fuels templateIn numbersIn pieceIn
 fuels-read-back = many-read-back fuelText FuelWritable fuels fuel-reads-back closing refl
 
+fuel-parted : (k : FuelKind) (more rest : List ℕ) → leadingDigits 10 ((fuelKindText k ++ more) ++ rest) ≡ []
+unfolding leadingDigits digitValue filled
+fuel-parted (Energy Q NCV C) more rest = refl
+fuel-parted (Mass Q W) more rest = refl
+fuel-parted (Volume Q density W) more rest = refl
+
 -- No digit follows the last number of a plant.
 pub fuels-parted : (lines : List FuelLine) → leadingDigits 10 (allText fuelText lines ++ closing) ≡ []
-unfolding leadingDigits digitValue allText filled
+unfolding leadingDigits digitValue allText
 fuels-parted [] = refl
-fuels-parted (l ∷ lines) = refl
+fuels-parted (l ∷ lines) = fuel-parted (l .kind) (allText fuelText lines) closing

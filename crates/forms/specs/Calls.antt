@@ -12,6 +12,8 @@ use Rattle.metering.specs.Energy.{noMeter}
 use Rattle.metering.specs.declared.Interval.the-variants.{Counts, Singles}
 use Rattle.metering.specs.declared.Meter.{Meter}
 use Rattle.fuel.specs.Fuel.{noLine}
+use Rattle.fuel.specs.declared.FuelKind.{FuelKind}
+use Rattle.fuel.specs.declared.FuelKind.the-variants.{Energy, Mass, Volume}
 use Rattle.fuel.specs.declared.FuelLine.{FuelLine}
 use Rattle.emissions.specs.declared.Margins.{Margins}
 use Rattle.emissions.specs.declared.CombinedMargin.{CombinedMargin}
@@ -96,8 +98,13 @@ fittedLoss Default20 = Default20
 fittedLoss Default3 = Default3
 fittedLoss Nothing = Nothing
 
+abbrev pub fittedFuelKind : FuelKind → FuelKind
+fittedFuelKind (Energy Q NCV C) = Energy (wordField Q) (wordField NCV) (wordField C)
+fittedFuelKind (Mass Q W) = Mass (wordField Q) (wordField W)
+fittedFuelKind (Volume Q density W) = Volume (wordField Q) (wordField density) (wordField W)
+
 abbrev pub fittedLine : FuelLine → FuelLine
-fittedLine l = record { quantity = wordField (l .quantity); ncv = wordField (l .ncv); factor = wordField (l .factor) }
+fittedLine l = record { kind = fittedFuelKind (l .kind) }
 
 abbrev pub fittedPlant : Plant → Plant
 fittedPlant p =

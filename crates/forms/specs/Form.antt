@@ -1,4 +1,4 @@
--- The forms of a line, as written, and their text (document 01, "The text the program tally reads": "Forms"; document 02, wish 1).
+-- The forms of a line, as written, and their text (document 01, "The text the program tally reads": "Forms"; document 02, wishes 1 and 2).
 use Prim.Native.Nat.{ℕ, _^_, _<_, _≤_}
 use mathlib.Core.Path.{_≡_}
 use mathlib.Core.List.{List, [], _∷_, _++_}
@@ -7,6 +7,8 @@ use Rattle.rounding.specs.Lists.{All}
 use Rattle.text.specs.Template.{filled}
 use Rattle.metering.specs.declared.Sign.{Sign}
 use Rattle.metering.specs.declared.Sign.the-variants.{Plus, Minus}
+use Rattle.fuel.specs.declared.FuelKind.{FuelKind}
+use Rattle.fuel.specs.declared.FuelKind.the-variants.{Energy, Mass, Volume}
 use Rattle.fuel.specs.declared.FuelLine.{FuelLine}
 use Rattle.emissions.specs.declared.GridKind.{GridKind}
 use Rattle.emissions.specs.declared.GridKind.the-variants.{Thermal, Hydro}
@@ -16,7 +18,7 @@ use Rattle.emissions.specs.declared.Supply.{Supply}
 use Rattle.emissions.specs.declared.Supply.the-variants.{Combined, GridDefault, Captive, CaptiveDefault, Either}
 use Rattle.emissions.specs.declared.Loss.{Loss}
 use Rattle.emissions.specs.declared.Loss.the-variants.{Nothing, Measured, Default20, Default3}
-use Rattle.forms.specs.Templates.{gridOpening, marginsOpening, weightsPart, plantOpening, sourceOpening, dropSourceOpening, dropPlantOpening, reportOpening, closing, thermalWord, hydroWord, projectWord, leakageWord, baselineWord, combinedPart, gridDefaultPart, captivePart, captiveDefaultPart, eitherPart, lossPart, default20Part, default3Part, nonePart, wholePlusPart, wholeMinusPart, singlePlusPart, singleMinusPart, fuelPart}
+use Rattle.forms.specs.Templates.{gridOpening, marginsOpening, weightsPart, plantOpening, sourceOpening, dropSourceOpening, dropPlantOpening, reportOpening, closing, thermalWord, hydroWord, projectWord, leakageWord, baselineWord, combinedPart, gridDefaultPart, captivePart, captiveDefaultPart, eitherPart, lossPart, default20Part, default3Part, nonePart, wholePlusPart, wholeMinusPart, singlePlusPart, singleMinusPart, fuelPart, massPart, volumePart}
 
 -- "meters (whole sign first last), (single sign first last)"; a register is its 32 bits.
 pub data MeterForm : Type 0 where
@@ -67,8 +69,14 @@ meterText (whole Minus first last) = filled wholeMinusPart (first ∷ last ∷ [
 meterText (single Plus first last) = filled singlePlusPart (first ∷ last ∷ [])
 meterText (single Minus first last) = filled singleMinusPart (first ∷ last ∷ [])
 
+-- "The forms are (fuel Q V C), (mass Q W) and (volume Q density W)".
+abbrev pub fuelKindText : FuelKind → List ℕ
+fuelKindText (Energy Q NCV C) = filled fuelPart (Q ∷ NCV ∷ C ∷ [])
+fuelKindText (Mass Q W) = filled massPart (Q ∷ W ∷ [])
+fuelKindText (Volume Q density W) = filled volumePart (Q ∷ density ∷ W ∷ [])
+
 abbrev pub fuelText : FuelLine → List ℕ
-fuelText l = filled fuelPart (l .quantity ∷ l .ncv ∷ l .factor ∷ [])
+fuelText l = fuelKindText (l .kind)
 
 -- "Any count of fuel lines or meters, none included, is a form".
 unfoldable pub allText : {A : Type 0} → (A → List ℕ) → List A → List ℕ
@@ -95,8 +103,13 @@ formText f = openText f ++ closing
 abbrev pub Decimal : ℕ → Type 0
 Decimal n = n < 10 ^ 18
 
+abbrev pub FuelKindWritable : FuelKind → Type 0
+FuelKindWritable (Energy Q NCV C) = Decimal Q × Decimal NCV × Decimal C
+FuelKindWritable (Mass Q W) = Decimal Q × Decimal W
+FuelKindWritable (Volume Q density W) = Decimal Q × Decimal density × Decimal W
+
 abbrev pub FuelWritable : FuelLine → Type 0
-FuelWritable l = Decimal (l .quantity) × Decimal (l .ncv) × Decimal (l .factor)
+FuelWritable l = FuelKindWritable (l .kind)
 
 abbrev pub SupplyWritable : Supply → Type 0
 SupplyWritable Combined = Unit {0}

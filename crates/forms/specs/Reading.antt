@@ -9,6 +9,7 @@ use lib.ListN.{length}
 use Rattle.text.specs.Template.{Read, onRead, mapRead, templateIn}
 use Rattle.text.specs.declared.Numbers.{Numbers}
 use Rattle.metering.specs.declared.Sign.the-variants.{Plus, Minus}
+use Rattle.fuel.specs.declared.FuelKind.the-variants.{Energy, Mass, Volume}
 use Rattle.fuel.specs.declared.FuelLine.{FuelLine}
 use Rattle.emissions.specs.declared.GridKind.{GridKind}
 use Rattle.emissions.specs.declared.GridKind.the-variants.{Thermal, Hydro}
@@ -18,7 +19,7 @@ use Rattle.emissions.specs.declared.Supply.{Supply}
 use Rattle.emissions.specs.declared.Supply.the-variants.{Combined, GridDefault, Captive, CaptiveDefault, Either}
 use Rattle.emissions.specs.declared.Loss.{Loss}
 use Rattle.emissions.specs.declared.Loss.the-variants.{Nothing, Measured, Default20, Default3}
-use Rattle.forms.specs.Templates.{gridOpening, marginsOpening, weightsPart, plantOpening, sourceOpening, dropSourceOpening, dropPlantOpening, reportOpening, thermalWord, hydroWord, projectWord, leakageWord, baselineWord, combinedPart, gridDefaultPart, captivePart, captiveDefaultPart, eitherPart, lossPart, default20Part, default3Part, nonePart, wholePlusPart, wholeMinusPart, singlePlusPart, singleMinusPart, fuelPart}
+use Rattle.forms.specs.Templates.{gridOpening, marginsOpening, weightsPart, plantOpening, sourceOpening, dropSourceOpening, dropPlantOpening, reportOpening, thermalWord, hydroWord, projectWord, leakageWord, baselineWord, combinedPart, gridDefaultPart, captivePart, captiveDefaultPart, eitherPart, lossPart, default20Part, default3Part, nonePart, wholePlusPart, wholeMinusPart, singlePlusPart, singleMinusPart, fuelPart, massPart, volumePart}
 use Rattle.forms.specs.Form.{lineLimit, MeterForm, whole, single, Form, grid, margins, plant, source, dropSource, dropPlant, report}
 
 -- ---- one of several templates, and any count of parts
@@ -86,7 +87,11 @@ meters =
     ∷ []
 
 unfoldable pub fuels : List (Row FuelLine)
-fuels = row fuelPart (λ n. record { quantity = n .first; ncv = n .second; factor = n .third }) ∷ []
+fuels =
+    row fuelPart (λ n. record { kind = Energy (n .first) (n .second) (n .third) })
+    ∷ row massPart (λ n. record { kind = Mass (n .first) (n .second) })
+    ∷ row volumePart (λ n. record { kind = Volume (n .first) (n .second) (n .third) })
+    ∷ []
 
 -- ---- what a form opens with
 

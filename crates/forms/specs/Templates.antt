@@ -96,6 +96,12 @@ singlePlusPart = bytes " (single + % %)"
 abbrev pub singleMinusPart : List ℕ
 singleMinusPart = bytes " (single - % %)"
 
--- "(fuel Q V C)".
+-- "The forms are (fuel Q V C), (mass Q W) and (volume Q density W)" (document 02, wish 2).
 abbrev pub fuelPart : List ℕ
 fuelPart = bytes " (fuel # # #)"
+
+abbrev pub massPart : List ℕ
+massPart = bytes " (mass # #)"
+
+abbrev pub volumePart : List ℕ
+volumePart = bytes " (volume # # #)"

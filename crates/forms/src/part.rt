@@ -18,6 +18,7 @@ use emissions::GridKind;
 use emissions::Loss;
 use emissions::Side;
 use emissions::Supply;
+use fuel::FuelKind;
 use fuel::FuelLine;
 use metering::Interval;
 use metering::Meter;
@@ -198,13 +199,33 @@ pub fn read_meter(line: &[u8], at: usize) -> MeterRead
 pub fn read_fuel(line: &[u8], at: usize) -> FuelRead
     ensures { λ r. ⌜ fuelMeaning (now (line .entry)) r ≡ mapRead fittedLine (oneOf fuels (drop at (now (line .entry)))) ⌝ }
 {
-    let Match::Match(numbers, next) = text::read_template(line, at, b" (fuel # # #)") else {
-        return FuelRead::Missing;
-    };
-    let fuel = FuelLine {
-        quantity: word_field(numbers.first),
-        ncv: word_field(numbers.second),
-        factor: word_field(numbers.third),
-    };
-    FuelRead::Found(fuel, next)
+    if let Match::Match(numbers, next) = text::read_template(line, at, b" (fuel # # #)") {
+        let quantity = word_field(numbers.first);
+        let ncv = word_field(numbers.second);
+        let factor = word_field(numbers.third);
+        let kind = FuelKind::Energy {
+            quantity,
+            ncv,
+            factor,
+        };
+        return FuelRead::Found(FuelLine { kind }, next);
+    }
+    if let Match::Match(numbers, next) = text::read_template(line, at, b" (mass # #)") {
+        let quantity = word_field(numbers.first);
+        let carbon = word_field(numbers.second);
+        let kind = FuelKind::Mass { quantity, carbon };
+        return FuelRead::Found(FuelLine { kind }, next);
+    }
+    if let Match::Match(numbers, next) = text::read_template(line, at, b" (volume # # #)") {
+        let quantity = word_field(numbers.first);
+        let density = word_field(numbers.second);
+        let carbon = word_field(numbers.third);
+        let kind = FuelKind::Volume {
+            quantity,
+            density,
+            carbon,
+        };
+        return FuelRead::Found(FuelLine { kind }, next);
+    }
+    FuelRead::Missing
 }

@@ -1,6 +1,6 @@
--- What callers know of a fuel line: it rounds the exact quotient, and within the limits it is given and bounded. Assumes nothing.
+-- What callers know of a fuel line, whatever its kind: it rounds the exact quotient, and within the limits it is given and bounded. Assumes nothing.
 use Prim.Native.Nat.{ℕ, _*_, _<_, _≤_}
-use mathlib.Core.Path.{_≡_, sym, _∙_}
+use mathlib.Core.Path.{_≡_, refl, sym, ap, subst, _∙_}
 use mathlib.Core.Bool.{true, _&&_}
 use native.Mathlib.Omega.{arith}
 use native.Mathlib.Nat.{mul-le-mul-right, mul-le-mul-left}
@@ -8,29 +8,62 @@ use lib.Dec.{leb}
 use borrow.Author.Tests.{leb-true}
 use Rattle.rounding.specs.Outcome.{refused, given}
 use Rattle.rounding.specs.Divided.{Rounds}
-use Rattle.rounding.specs.Ratio.{whole, Conservative}
+use Rattle.rounding.specs.Ratio.{Ratio, _÷_, whole, Conservative}
 use Rattle.rounding.specs.declared.Direction.{Direction}
 use Rattle.rounding.proofs.Outcomes.{never-given, given-is}
 use Rattle.rounding.proofs.Divided.{rounds, divided-at-most}
 use Rattle.rounding.proofs.Ratio.{rounds-conservative}
 use Rattle.rounding.proofs.Tests.{and-both}
-use Rattle.fuel.specs.Fuel.{withinLimits, exactMilligrams, roundedMilligrams, lineMilligrams}
+use Rattle.fuel.specs.Fuel.{kindFits, withinLimits, kindMilligrams, exactMilligrams, roundedMilligrams, lineMilligrams}
+use Rattle.fuel.specs.declared.FuelKind.{FuelKind}
+use Rattle.fuel.specs.declared.FuelKind.the-variants.{Energy, Mass, Volume}
 use Rattle.fuel.specs.declared.FuelLine.{FuelLine}
+
+-- ---- the exact milligrams: a product over a divisor above 0
+
+kind-over : (k : FuelKind) → 0 < kindMilligrams k .over
+kind-over (Energy Q NCV C) = omega arith
+kind-over (Mass Q W) = omega arith
+kind-over (Volume Q density W) = omega arith
+
+kind-quotient : (k : FuelKind) → kindMilligrams k ≡ (kindMilligrams k .plus ÷ kindMilligrams k .over)
+kind-quotient (Energy Q NCV C) = refl
+kind-quotient (Mass Q W) = refl
+kind-quotient (Volume Q density W) = refl
 
 -- The denominator of the exact milligrams is above 0.
 pub line-over : (l : FuelLine) → 0 < exactMilligrams l .over
 unfolding exactMilligrams
-line-over l = omega arith
+line-over l = kind-over (l .kind)
 
--- The rounded line rounds the exact quotient.
+line-quotient : (l : FuelLine) → exactMilligrams l ≡ (exactMilligrams l .plus ÷ exactMilligrams l .over)
+unfolding exactMilligrams
+line-quotient l = kind-quotient (l .kind)
+
+-- Nothing is subtracted in them.
+pub line-unsigned : (l : FuelLine) → exactMilligrams l .minus ≡ 0
+line-unsigned l = ap (λ (x : Ratio). x .minus) (line-quotient l)
+
+-- "from 44/12": the fuel's mass in mg, × W ÷ 10,000 of carbon, × 44 ÷ 12 of CO2. A kg has 1,000,000 mg, a litre density × 1,000 mg.
+pub mass-from-carbon : (Q W : ℕ) → kindMilligrams (Mass Q W) .plus * (10000 * 12) ≡ Q * 1000000 * W * 44 * kindMilligrams (Mass Q W) .over
+mass-from-carbon Q W = omega arith
+
+pub volume-from-carbon : (Q density W : ℕ)
+    → kindMilligrams (Volume Q density W) .plus * (10000 * 12) ≡ Q * (density * 1000) * W * 44 * kindMilligrams (Volume Q density W) .over
+volume-from-carbon Q density W = omega arith
+
+-- ---- the rounded line
+
+-- It rounds the exact quotient.
 pub line-rounds : (dir : Direction) (l : FuelLine) → Rounds dir (exactMilligrams l .plus) (exactMilligrams l .over) (roundedMilligrams dir l)
 unfolding roundedMilligrams
 line-rounds dir l = rounds dir (exactMilligrams l .plus) (exactMilligrams l .over) (line-over l)
 
 -- So it stands on the safe side of the exact milligrams, less than 1 mg off.
 pub line-conservative : (dir : Direction) (l : FuelLine) → Conservative dir (roundedMilligrams dir l) (exactMilligrams l) (whole 1)
-unfolding exactMilligrams
-line-conservative dir l = rounds-conservative dir (exactMilligrams l .plus) (exactMilligrams l .over) (roundedMilligrams dir l) (line-rounds dir l)
+line-conservative dir l =
+    subst (λ (x : Ratio). Conservative dir (roundedMilligrams dir l) x (whole 1)) (sym (line-quotient l))
+    (rounds-conservative dir (exactMilligrams l .plus) (exactMilligrams l .over) (roundedMilligrams dir l) (line-rounds dir l))
 
 -- ---- what a line within the limits gives
 
@@ -46,33 +79,51 @@ line-refused dir l n h e = never-given (sym e ∙ line-given dir l h)
 pub line-is : (dir : Direction) (l : FuelLine) (w : ℕ) → withinLimits l ≡ true → lineMilligrams dir l ≡ given w → w ≡ roundedMilligrams dir l
 line-is dir l w h e = given-is (sym e ∙ line-given dir l h)
 
--- ---- the bound within the limits
-
--- Q, V and C within their limits.
-pub record Limits (l : FuelLine) : Type 0 where
-  pub quantity : l .quantity ≤ 100000000
-  pub calorific : l .ncv ≤ 150000
-  pub emission : l .factor ≤ 200000
-
-pub limits : (l : FuelLine) → withinLimits l ≡ true → Limits l
-unfolding withinLimits
-limits l e =
-    let a = and-both (leb (l .quantity) 100000000 && leb 1 (l .ncv) && leb (l .ncv) 150000) _ e in
-    let b = and-both (leb (l .quantity) 100000000 && leb 1 (l .ncv)) _ (a .0) in
-    let c = and-both (leb (l .quantity) 100000000) _ (b .0) in
-    record { quantity = leb-true _ _ (c .0); calorific = leb-true _ _ (b .1); emission = leb-true _ _ (a .1) }
+-- ---- the products within the limits, each kind's
 
 -- A product of three bounded numbers.
 product-le : (q v c i j k : ℕ) → q ≤ i → v ≤ j → c ≤ k → q * v * c ≤ i * j * k
 product-le q v c i j k h h′ h″ =
     omega (arith, mul-le-mul-right c (mul-le-mul-right v h), mul-le-mul-right c (mul-le-mul-left i h′), mul-le-mul-left (i * j) h″)
 
-pub product-bound : (l : FuelLine) → Limits l → l .quantity * l .ncv * l .factor ≤ 3000000000000000000
-product-bound l h =
-    product-le (l .quantity) (l .ncv) (l .factor) 100000000 150000 200000 (h .quantity) (h .calorific) (h .emission)
+-- A product of two.
+pair-le : (q w i j : ℕ) → q ≤ i → w ≤ j → q * w ≤ i * j
+pair-le q w i j h h′ = omega (arith, mul-le-mul-right w h, mul-le-mul-left i h′)
+
+pub energy-product : (Q NCV C : ℕ) → kindFits (Energy Q NCV C) ≡ true → (Q * NCV ≤ 15000000000000) × (Q * NCV * C ≤ 3000000000000000000)
+energy-product Q NCV C e =
+    let a = and-both (leb Q 100000000 && leb 1 NCV && leb NCV 150000) _ e in
+    let b = and-both (leb Q 100000000 && leb 1 NCV) _ (a .0) in
+    let quantity = leb-true Q 100000000 (and-both (leb Q 100000000) (leb 1 NCV) (b .0) .0) in
+    let calorific = leb-true NCV 150000 (b .1) in (
+      pair-le Q NCV 100000000 150000 quantity calorific,
+      product-le Q NCV C 100000000 150000 200000 quantity calorific (leb-true C 200000 (a .1)),
+    )
+
+pub mass-product : (Q W : ℕ) → kindFits (Mass Q W) ≡ true → Q * W ≤ 1000000000000
+mass-product Q W e =
+    let a = and-both (leb Q 100000000) _ e in
+    pair-le Q W 100000000 10000 (leb-true _ _ (a .0)) (leb-true _ _ (a .1))
+
+pub volume-product : (Q density W : ℕ) → kindFits (Volume Q density W) ≡ true → (Q * density ≤ 200000000000) × (Q * density * W ≤ 2000000000000000)
+volume-product Q density W e =
+    let a = and-both (leb density 2000) _ e in
+    let b = and-both (leb Q 100000000) _ (a .1) in
+    let quantity = leb-true Q 100000000 (b .0) in
+    let heavy = leb-true density 2000 (a .0) in (
+      pair-le Q density 100000000 2000 quantity heavy,
+      product-le Q density W 100000000 2000 10000 quantity heavy (leb-true W 10000 (b .1)),
+    )
+
+-- ---- the bound within the limits
+
+kind-bound : (k : FuelKind) → kindFits k ≡ true → kindMilligrams k .plus ≤ 3000000000000000 * kindMilligrams k .over
+kind-bound (Energy Q NCV C) e = omega (arith, energy-product Q NCV C e .1)
+kind-bound (Mass Q W) e = omega (arith, mass-product Q W e)
+kind-bound (Volume Q density W) e = omega (arith, volume-product Q density W e .1)
 
 -- A line within its limits is at most 3,000,000,000,000,000 mg.
 pub line-bound : (dir : Direction) (l : FuelLine) → withinLimits l ≡ true → roundedMilligrams dir l ≤ 3000000000000000
-unfolding roundedMilligrams exactMilligrams
+unfolding roundedMilligrams exactMilligrams withinLimits
 line-bound dir l e =
-    divided-at-most dir (exactMilligrams l .plus) (exactMilligrams l .over) 3000000000000000 (line-over l) (omega (arith, product-bound l (limits l e)))
+    divided-at-most dir (exactMilligrams l .plus) (exactMilligrams l .over) 3000000000000000 (line-over l) (kind-bound (l .kind) e)

@@ -1,4 +1,4 @@
--- A fuel line (document 01, "Losses and factors", captive, and "Plant entry", number 2).
+-- A fuel line (document 01, "Losses and factors", captive, and "Plant entry", number 2; document 02, wish 2).
 use Prim.Native.Nat.{ℕ, _*_}
 use mathlib.Core.Bool.{Bool, _&&_}
 use lib.Dec.{leb}
@@ -6,25 +6,36 @@ use Rattle.rounding.specs.Outcome.{Outcome, refused, given, refuseUnless}
 use Rattle.rounding.specs.Divided.{divided}
 use Rattle.rounding.specs.Ratio.{Ratio, _÷_}
 use Rattle.rounding.specs.declared.Direction.{Direction}
+use Rattle.fuel.specs.declared.FuelKind.{FuelKind}
+use Rattle.fuel.specs.declared.FuelKind.the-variants.{Energy, Mass, Volume}
 use Rattle.fuel.specs.declared.FuelLine.{FuelLine}
 use Rattle.fuel.specs.declared.Milligrams.{Milligrams}
 use Rattle.fuel.specs.declared.Milligrams.the-variants.{Refused, Rounded}
 
 -- The empty line: what a place for a fuel line holds where there is none.
 abbrev pub noLine : FuelLine
-noLine = record { quantity = 0; ncv = 0; factor = 0 }
+noLine = record { kind = Energy 0 0 0 }
 
--- What number 2 does not refuse: "Q above 100,000,000, V outside 1 to 150,000, or C above 200,000".
+-- What number 2 does not refuse: "Q above 100,000,000, V outside 1 to 150,000, or C above 200,000"; "Q keeps its limit, and W above 10,000 or a
+-- density above 2,000 is refused 2".
+abbrev pub kindFits : FuelKind → Bool
+kindFits (Energy Q NCV C) = leb Q 100000000 && leb 1 NCV && leb NCV 150000 && leb C 200000
+kindFits (Mass Q W) = leb Q 100000000 && leb W 10000
+kindFits (Volume Q density W) = leb density 2000 && (leb Q 100000000 && leb W 10000)
+
 unfoldable pub withinLimits : FuelLine → Bool
-withinLimits l =
-    leb (l .quantity) 100000000
-    && leb 1 (l .ncv)
-    && leb (l .ncv) 150000
-    && leb (l .factor) 200000
+withinLimits l = kindFits (l .kind)
 
 -- "Each fuel line .. gives Q × V × C ÷ 1,000 mg: Q quantity in mass or volume units, V net calorific value in kJ a unit, C in mg CO2 a MJ."
+-- "By mass the line is Q × W × 1,100 ÷ 3 mg, by volume Q × density × W × 11 ÷ 30, from 44/12": Q in kg or litres, the density in g a litre, W
+-- the carbon fraction in ten-thousandths.
+abbrev pub kindMilligrams : FuelKind → Ratio
+kindMilligrams (Energy Q NCV C) = (Q * NCV * C) ÷ 1000
+kindMilligrams (Mass Q W) = (Q * W * 1100) ÷ 3
+kindMilligrams (Volume Q density W) = (Q * density * W * 11) ÷ 30
+
 unfoldable pub exactMilligrams : FuelLine → Ratio
-exactMilligrams l = (l .quantity * l .ncv * l .factor) ÷ 1000
+exactMilligrams l = kindMilligrams (l .kind)
 
 -- The line's milligrams, rounded.
 unfoldable pub roundedMilligrams : Direction → FuelLine → ℕ

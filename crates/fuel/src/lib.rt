@@ -1,17 +1,50 @@
 // Fuel lines of a captive plant: their limits and their milligrams of CO2 (document 01, "Losses and
-// factors", captive, and "Plant entry", number 2).
+// factors", captive, and "Plant entry", number 2; document 02, wish 2).
 ghost use mathlib.Core.Path.{_≡_};
-ghost use Rattle.fuel.specs.Fuel.{noLine, withinLimits, lineMilligrams, milligramsMeaning};
+ghost use mathlib.Core.Bool.{true};
+ghost use Rattle.rounding.specs.Ratio.{_÷_};
+ghost use Rattle.fuel.specs.declared.FuelKind.the-variants.{Energy, Mass, Volume};
+ghost use Rattle.fuel.specs.Fuel.{
+  noLine,
+  kindFits,
+  withinLimits,
+  exactMilligrams,
+  lineMilligrams,
+  milligramsMeaning,
+};
 use rounding::Direction;
+
+// The figures of a fuel line, by what the supplier states of the fuel.
+pub enum FuelKind {
+    // The quantity burned, Q, in mass or volume units; the net calorific value, V, in kJ a unit; the CO2
+    // emission factor, C, in mg a MJ.
+    Energy {
+        quantity: u32,
+        ncv: u32,
+        factor: u32,
+    },
+    // Q in kg; the carbon fraction by mass, W, in ten-thousandths.
+    Mass {
+        quantity: u32,
+        carbon: u32,
+    },
+    // Q in litres; the density in g a litre; W.
+    Volume {
+        quantity: u32,
+        density: u32,
+        carbon: u32,
+    },
+}
 
 // A fuel line as entered.
 pub struct FuelLine {
-    // The quantity burned, Q, in mass or volume units.
-    pub quantity: u32,
-    // The net calorific value, V, in kJ a unit.
-    pub ncv: u32,
-    // The CO2 emission factor, C, in mg a MJ.
-    pub factor: u32,
+    pub kind: FuelKind,
+}
+
+// A line's milligrams of CO2 before they are rounded: the product over the divisor.
+struct Unrounded {
+    product: u64,
+    divisor: u64,
 }
 
 // A line's milligrams of CO2, or that it is out of its limits (number 2).
@@ -29,14 +62,20 @@ impl FuelLine {
 
     pub const FACTOR_LIMIT: u32 = 200_000;
 
+    pub const DENSITY_LIMIT: u32 = 2_000;
+
+    pub const CARBON_LIMIT: u32 = 10_000;
+
     // The empty line: what a place for a line holds where there is none.
     pub fn empty() -> FuelLine
         ensures { λ r. ⌜ r ≡ noLine ⌝ }
     {
         FuelLine {
-            quantity: 0,
-            ncv: 0,
-            factor: 0,
+            kind: FuelKind::Energy {
+                quantity: 0,
+                ncv: 0,
+                factor: 0,
+            },
         }
     }
 
@@ -44,16 +83,52 @@ impl FuelLine {
     pub fn is_within_limits(self) -> bool
         ensures { λ r. ⌜ r ≡ withinLimits self ⌝ }
     {
-        if self.quantity > FuelLine::QUANTITY_LIMIT {
-            return false;
+        let kind = self.kind;
+        match kind {
+            FuelKind::Energy {
+                quantity,
+                ncv,
+                factor,
+            } => energy_fits(quantity, ncv, factor),
+            FuelKind::Mass { quantity, carbon } => mass_fits(quantity, carbon),
+            FuelKind::Volume {
+                quantity,
+                density,
+                carbon,
+            } => volume_fits(quantity, density, carbon),
         }
-        if self.ncv < FuelLine::NCV_LEAST {
-            return false;
+    }
+
+    // The milligrams of CO2 of the line by its kind. Carbon becomes 44/12 of its mass in CO2: in the units of
+    // the figures 1,100/3 of Q × W by mass and 11/30 of Q × density × W by volume. Within the limits no
+    // product wraps.
+    fn unrounded(self) -> Unrounded
+        requires { ⌜ withinLimits self ≡ true ⌝ }
+        ensures { λ r. ⌜ (r .product ÷ r .divisor) ≡ exactMilligrams self ⌝ }
+    {
+        let kind = self.kind;
+        match kind {
+            FuelKind::Energy {
+                quantity,
+                ncv,
+                factor,
+            } => Unrounded {
+                product: quantity as u64 * ncv as u64 * factor as u64,
+                divisor: 1_000,
+            },
+            FuelKind::Mass { quantity, carbon } => Unrounded {
+                product: quantity as u64 * carbon as u64 * 1_100,
+                divisor: 3,
+            },
+            FuelKind::Volume {
+                quantity,
+                density,
+                carbon,
+            } => Unrounded {
+                product: quantity as u64 * density as u64 * carbon as u64 * 11,
+                divisor: 30,
+            },
         }
-        if self.ncv > FuelLine::NCV_LIMIT {
-            return false;
-        }
-        self.factor <= FuelLine::FACTOR_LIMIT
     }
 
     // The milligrams of CO2 of the line, rounded. Out of its limits nothing is computed, so that no
@@ -62,11 +137,43 @@ impl FuelLine {
         ensures { λ r. ⌜ milligramsMeaning r ≡ lineMilligrams direction self ⌝ }
     {
         if self.is_within_limits() {
-            let q = self.quantity as u64;
-            let v = self.ncv as u64;
-            let c = self.factor as u64;
-            return Milligrams::Rounded(rounding::divide(direction, q * v * c, 1_000));
+            let exact = self.unrounded();
+            return Milligrams::Rounded(rounding::divide(direction, exact.product, exact.divisor));
         }
         Milligrams::Refused
     }
+}
+
+fn energy_fits(quantity: u32, ncv: u32, factor: u32) -> bool
+    ensures { λ r. ⌜ r ≡ kindFits (Energy quantity ncv factor) ⌝ }
+{
+    if quantity > FuelLine::QUANTITY_LIMIT {
+        return false;
+    }
+    if ncv < FuelLine::NCV_LEAST {
+        return false;
+    }
+    if ncv > FuelLine::NCV_LIMIT {
+        return false;
+    }
+    factor <= FuelLine::FACTOR_LIMIT
+}
+
+fn mass_fits(quantity: u32, carbon: u32) -> bool
+    ensures { λ r. ⌜ r ≡ kindFits (Mass quantity carbon) ⌝ }
+{
+    if quantity > FuelLine::QUANTITY_LIMIT {
+        return false;
+    }
+    carbon <= FuelLine::CARBON_LIMIT
+}
+
+// W and Q are limited as by mass.
+fn volume_fits(quantity: u32, density: u32, carbon: u32) -> bool
+    ensures { λ r. ⌜ r ≡ kindFits (Volume quantity density carbon) ⌝ }
+{
+    if density > FuelLine::DENSITY_LIMIT {
+        return false;
+    }
+    mass_fits(quantity, carbon)
 }

@@ -19,6 +19,7 @@ use Rattle.metering.specs.declared.Sign.the-variants.{Plus, Minus}
 use Rattle.metering.specs.declared.Interval.the-variants.{Counts, Singles}
 use Rattle.metering.specs.declared.Meter.{Meter}
 use Rattle.fuel.specs.Fuel.{withinLimits, exactMilligrams, roundedMilligrams}
+use Rattle.fuel.specs.declared.FuelKind.the-variants.{Energy, Mass, Volume}
 use Rattle.fuel.specs.declared.FuelLine.{FuelLine}
 use Rattle.rounding.specs.Outcome.{Outcome, refused, given}
 use Rattle.emissions.specs.Factor.{combined, captive, exactCombined, roundedCombined, margin, exactMargin, gridDefault, captiveJudged, lowDefault, exactCaptive, exactFactorOf, chosen}
@@ -73,9 +74,18 @@ abbrev pub captiveSource : Side → ℕ → SourceEntry
 captiveSource side E = source side CaptiveDefault Nothing (counts Plus 0 E)
 
 abbrev pub fuel : ℕ → ℕ → ℕ → FuelLine
-fuel q v c = record { quantity = q; ncv = v; factor = c }
+fuel Q NCV C = record { kind = Energy Q NCV C }
 
--- A plant with two fuel lines.
+abbrev pub mass : ℕ → ℕ → FuelLine
+mass Q W = record { kind = Mass Q W }
+
+abbrev pub volume : ℕ → ℕ → ℕ → FuelLine
+volume Q density W = record { kind = Volume Q density W }
+
+-- A plant with four fuel lines, and with two.
+abbrev pub plant4 : ℕ → ℕ → FuelLine → FuelLine → FuelLine → FuelLine → Plant
+plant4 S G l k m n = record { site = S; generation = G; lines = l ∷ k ∷ m ∷ n ∷ []; count = 4 }
+
 abbrev pub plant : ℕ → ℕ → FuelLine → FuelLine → Plant
 plant S G l k = record { site = S; generation = G; lines = l ∷ k ∷ fuel 0 0 0 ∷ fuel 0 0 0 ∷ []; count = 2 }
 
@@ -213,6 +223,35 @@ equal-takes-combined = (refl, refl)
 pub greater-takes-captive : Is (exactSide (stands (choosing Project 600000)) Project) 600000000001 1000000000000
 unfolding stands
 greater-takes-captive = (refl, refl)
+
+-- ---- fuel lines of all kinds in one plant: each is rounded by itself, and the exact values use the unrounded lines
+
+-- 0.001 mg by energy, 366.66.. mg by mass and 0.366.. mg by volume beside Q mg, over 1,000 kWh.
+abbrev pub allKinds : ℕ → ℕ → Plant
+allKinds S Q = plant4 S 1000 (fuel 1 1 1) (mass 1 1) (volume 1 1 1) (fuel Q 1 1000)
+
+-- A project source on the one plant and a baseline source on the other, each of 1,000 kWh, so that its grams are its factor.
+abbrev pub kindCalls : List Call
+kindCalls =
+    enterPlant 0 (allKinds 0 632)
+    ∷ enterPlant 1 (allKinds 1 633)
+    ∷ enterSource 0 (source Project (Captive 0) Nothing (counts Plus 0 1000000))
+    ∷ enterSource 1 (source Baseline (Captive 1) Nothing (counts Plus 0 1000000))
+    ∷ report
+    ∷ []
+
+-- Rounded up the lines of the one come to 1,001 mg and its factor to 2, rounded down those of the other to 999 mg and 0. With any one of the three
+-- lines rounded the other way it would be 1,000 mg and 1.
+pub kinds-rounded : run kindCalls
+    ≡ ok ∷ ok ∷ ok ∷ ok ∷ reported (record { project = totals 1 2 1; leakage = zeros; baseline = totals 0 0 1; reduction = negsuc 0 }) ∷ []
+unfolding run
+kinds-rounded = refl
+
+-- 0.001 + 1,100 ÷ 3 + 11 ÷ 30 + Q mg over 1,000 kWh.
+pub exact-kinds : Is (exactSide (stands kindCalls) Project) 2997103 3000000000000
+    × Is (exactSide (stands kindCalls) Baseline) 3000103 3000000000000
+unfolding stands
+exact-kinds = ((refl, refl), (refl, refl))
 
 -- ---- margins: each side takes the mean rounded its way, and the exact values use the unrounded mean
 
@@ -372,7 +411,7 @@ not-12 = (refl, lit≤ tt)
 -- 32 fuel lines, each nearly a milligram off, over 1,000 kWh: the captive factor is 999,691 up and 999,689 down, where the exact one is about
 -- 999,689.97, and either takes it on every side. Each side's grams are next to a whole tonne, on its worse side.
 abbrev pub plantOf : FuelLine → Plant
-plantOf l = record { site = 0; generation = 125; lines = fuel 1 1 1 ∷ fuel 1 1 1 ∷ fuel 1 1 1 ∷ l ∷ []; count = 4 }
+plantOf l = plant4 0 125 (fuel 1 1 1) (fuel 1 1 1) (fuel 1 1 1) l
 
 abbrev pub largeSource : Side → ℕ → SourceEntry
 largeSource side E = source side (Either 0) (Measured 5000) (counts Plus 0 E)

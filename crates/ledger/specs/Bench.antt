@@ -7,6 +7,7 @@ use Rattle.rounding.specs.declared.Direction.the-variants.{Up, Down}
 use Rattle.metering.specs.Reading.{wattHours}
 use Rattle.metering.specs.declared.Reading.the-variants.{Single}
 use Rattle.fuel.specs.Fuel.{roundedMilligrams}
+use Rattle.fuel.specs.declared.FuelKind.the-variants.{Energy}
 use Rattle.fuel.specs.declared.FuelLine.{FuelLine}
 use Rattle.rounding.specs.Outcome.{Outcome, refused, given}
 use Rattle.emissions.specs.Factor.{captiveJudged}
@@ -34,7 +35,7 @@ table =
     ∷ register 0x80000000 (given 0) (given 0)  -- (d)
     ∷ register 0x4cbebc20 (given 100000000000) (given 100000000000)  -- (e)
     ∷ register 0x4cbebc21 (refused 3) (refused 3)
-    ∷ fuelLine (record { quantity = 1000; ncv = 43000; factor = 74100 }) 3186300000  -- (f)
+    ∷ fuelLine (record { kind = Energy 1000 43000 74100 }) 3186300000  -- (f)
     ∷ captive 3186300000 7000 (given 455185) (given 455186)  -- (g)
     ∷ losses 1000001 2000 1200001 1200002  -- (h)
     ∷ captive 3186300000 999 (refused 9) (refused 9)  -- (i)

@@ -13,6 +13,7 @@ use emissions::Margins;
 use emissions::Side;
 use emissions::Supply;
 use emissions::Weights;
+use fuel::FuelKind;
 use fuel::FuelLine;
 use ledger::Ledger;
 use metering::Interval;
@@ -83,12 +84,18 @@ fn loss(seed: u32) -> Loss {
     }
 }
 
+fn energy_line(quantity: u32) -> FuelLine {
+    FuelLine {
+        kind: FuelKind::Energy {
+            quantity,
+            ncv: 43_000,
+            factor: 74_100,
+        },
+    }
+}
+
 fn plant(seed: u32) -> Plant {
-    let line = FuelLine {
-        quantity: 1_000 + seed % 1_000,
-        ncv: 43_000,
-        factor: 74_100,
-    };
+    let line = energy_line(1_000 + seed % 1_000);
     Plant {
         site: (seed % 4) as u8,
         count: Plant::LINES_LIMIT,
@@ -290,11 +297,7 @@ fn grid_entry(call: Call) -> GridEntry {
 }
 
 fn plant_entry(call: Call) -> Plant {
-    let line = FuelLine {
-        quantity: call.last,
-        ncv: 43_000,
-        factor: 74_100,
-    };
+    let line = energy_line(call.last);
     Plant {
         site: (call.fields % 10) as u8,
         count: (call.fields / 10 % 10) as u8,

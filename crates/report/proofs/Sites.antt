@@ -11,7 +11,7 @@ use Rattle.rounding.specs.Lists.{All}
 use Rattle.rounding.proofs.Ratio.{Within, all-of, all-then, all-map, sum-within-equal, sum-over, sum-unsigned, conservative-within}
 use Rattle.fuel.specs.Fuel.{exactMilligrams, roundedMilligrams}
 use Rattle.fuel.specs.declared.FuelLine.{FuelLine}
-use Rattle.fuel.proofs.Fuel.{line-over, line-conservative}
+use Rattle.fuel.proofs.Fuel.{line-over, line-unsigned, line-conservative}
 use Rattle.emissions.proofs.Factors.{SiteSound}
 use Rattle.report.specs.Report.{PlainPlant, plainOf, Numbered, plainAt, plantsIn, selected, plantMilligrams, exactPlant, plantsAt, siteOf}
 use Rattle.records.specs.Judging.{linesOf}
@@ -37,10 +37,6 @@ plant-within dir p h =
 plant-over : (p : PlainPlant) → 0 < exactPlant p .over
 unfolding exactPlant
 plant-over p = sum-over exactMilligrams (p .lines) (all-of line-over (p .lines))
-
-line-unsigned : (l : FuelLine) → exactMilligrams l .minus ≡ 0
-unfolding exactMilligrams
-line-unsigned l = refl
 
 plant-unsigned : (p : PlainPlant) → exactPlant p .minus ≡ 0
 unfolding exactPlant

@@ -1,4 +1,6 @@
-// A fuel line: a direction, up (0) or down (1), Q, V and C. Writes its milligrams of CO2, or that it is refused.
+// A fuel line: a direction, up (0) or down (1), and the line's kind, energy (0), mass (1) or volume (2), and
+// three figures: Q, V and C; Q, W and one that is not read; Q, the density and W. Writes its milligrams of CO2,
+// or that it is refused.
 use crate::lines::direction;
 use crate::lines::field;
 use crate::lines::field_fuel_line;
@@ -8,7 +10,7 @@ use crate::lines::write_refused;
 use fuel::Milligrams;
 
 pub fn answer_line() -> bool {
-    let mut line = [0u8; 68];
+    let mut line = [0u8; 85];
     if read_line(&mut line) {
         let up_or_down = direction(field(&line, 0));
         match field_fuel_line(&line, 1).milligrams(up_or_down) {

@@ -1,5 +1,6 @@
 // A line of 64-bit fields, each of 16 lower-case hexadecimal digits, with a space between two and a line feed
 // at the end. Every line of one kind has the same number of fields.
+use fuel::FuelKind;
 use fuel::FuelLine;
 use libc::STDIN_FILENO;
 use libc::STDOUT_FILENO;
@@ -76,14 +77,29 @@ pub fn direction(number: u64) -> Direction {
     Direction::Down
 }
 
-// Three fields from i as a fuel line: Q, V and C.
+// Four fields from i as a fuel line: its kind and three figures, as fuel_lines.rt says.
 pub fn field_fuel_line(line: &[u8], i: usize) -> FuelLine {
     let at = i % 256;
-    FuelLine {
-        quantity: field_u32(line, at),
-        ncv: field_u32(line, at + 1),
-        factor: field_u32(line, at + 2),
-    }
+    let quantity = field_u32(line, at + 1);
+    let second = field_u32(line, at + 2);
+    let third = field_u32(line, at + 3);
+    let kind = match field(line, at) {
+        0 => FuelKind::Energy {
+            quantity,
+            ncv: second,
+            factor: third,
+        },
+        1 => FuelKind::Mass {
+            quantity,
+            carbon: second,
+        },
+        _ => FuelKind::Volume {
+            quantity,
+            density: second,
+            carbon: third,
+        },
+    };
+    FuelLine { kind }
 }
 
 // The field i as a sign: 0 is +, and 1 -.

@@ -1,45 +1,29 @@
--- `fuel::FuelLine::milligrams` meets its contract: within the limits the product fits. Assumes nothing.
+-- `fuel::FuelLine::milligrams` meets its contract: within the limits the product over the divisor is the exact value, and it is rounded once.
+-- Assumes nothing.
 use borrow.Author.Needs.{needs}
 use mathlib.Core.Path.{sym, ap, _∙_}
-use native.Mathlib.Omega.{arith}
-use native.Mathlib.Nat.{mul-le-mul-right}
 use Rattle.rounding.specs.Outcome.{given}
-use Rattle.fuel.specs.Fuel.{exactMilligrams, roundedMilligrams, lineMilligrams}
-use Rattle.fuel.proofs.Fuel.{Limits, limits, product-bound}
+use Rattle.rounding.specs.Divided.{divided}
+use Rattle.rounding.specs.Ratio.{Ratio}
+use Rattle.fuel.specs.Fuel.{roundedMilligrams, lineMilligrams}
 use Rattle.fuel.proofs.FuelLine.milligrams.Statement.{statement}
 use Rattle.fuel.proofs.FuelLine.milligrams.Tie as tie
 
 is-within-limits-requires : tie.Need-is-within-limits-requires
 is-within-limits-requires c κs = search needs
 
-cast-q : tie.Need-cast-q
-cast-q c = search needs
-
-cast-v : tie.Need-cast-v
-cast-v c = search needs
-
-cast-c : tie.Need-cast-c
-cast-c c = search needs
-
--- The limits, where the test let the line through.
-within : (c : tie.After-struct-known3) → Limits (c .before .before .before .before .before .args .self)
-within c = limits _ (sym (c .before .before .before .before .is-within-limits .ensures) ∙ c .before .before .before .if1 .taken)
-
-mul-divide : tie.Need-mul-divide
-mul-divide c =
-    omega (arith, mul-le-mul-right (c .before .before .before .before .before .args .self .ncv) (within c .quantity), within c .calorific)
-
-mul-divide-2 : tie.Need-mul-divide-2
-mul-divide-2 c = omega (arith, product-bound _ (within c))
+unrounded-requires : tie.Need-unrounded-requires
+unrounded-requires c κs = sym (c .before .is-within-limits .ensures) ∙ c .if1 .taken
 
 divide-requires : tie.Need-divide-requires
 divide-requires c κs = search needs
 
 returns : tie.Need-returns
-unfolding lineMilligrams roundedMilligrams exactMilligrams
+unfolding lineMilligrams roundedMilligrams
 returns c =
-    rw (sym (c .before .before .before .before .before .is-within-limits .ensures) ∙ c .before .before .before .before .if1 .taken)
-    (ap given (c .divide .ensures))
+    let a = c .before .before .before .before in
+    rw (sym (c .before .before .before .is-within-limits .ensures) ∙ c .before .before .if1 .taken)
+    (ap given (c .divide .ensures ∙ ap (λ (x : Ratio). divided (a .args .direction) (x .plus) (x .over)) (c .before .unrounded .ensures)))
 
 returns-2 : tie.Need-returns-2
 unfolding lineMilligrams
@@ -48,13 +32,4 @@ returns-2 c = rw (sym (c .before .is-within-limits .ensures) ∙ c .if1 .left)
 pub milligrams-spec : {M : Type 1} → statement M
 milligrams-spec =
     tie.close
-    (tie.spec
-    is-within-limits-requires
-    cast-q
-    cast-v
-    cast-c
-    mul-divide
-    mul-divide-2
-    divide-requires
-    returns
-    returns-2)
+    (tie.spec is-within-limits-requires unrounded-requires divide-requires returns returns-2)
