@@ -29,7 +29,8 @@ pub struct LedgerKept {
 }
 
 impl Ledger {
-    // A new ledger is empty.
+    // A new ledger is empty. Its plants are listed: the compiler keeps a repeat of so large a record apart from the
+    // caller's ledger for as long as the caller runs (docs/DECISIONS.md).
     pub fn new() -> Ledger
         ensures { λ r. ⌜ r ≡ newLedger ⌝ }
     {
@@ -38,7 +39,7 @@ impl Ledger {
         let source = SourceRecord::empty();
         Ledger {
             grid,
-            plants: [plant; Plant::PLACES],
+            plants: [plant, plant, plant, plant, plant, plant, plant, plant],
             sources: [source; Source::PLACES],
         }
     }
