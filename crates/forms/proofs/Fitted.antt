@@ -18,6 +18,7 @@ use Rattle.fuel.specs.Fuel.{noLine, kindFits, withinLimits}
 use Rattle.fuel.specs.declared.FuelKind.{FuelKind}
 use Rattle.fuel.specs.declared.FuelKind.the-variants.{Energy, Mass, Volume}
 use Rattle.fuel.specs.declared.FuelLine.{FuelLine}
+use Rattle.fuel.proofs.Fuel.{energy-limits, mass-limits, volume-limits}
 use Rattle.rounding.specs.Outcome.{Outcome, refused, given, refuseUnless}
 use Rattle.emissions.specs.Factor.{factorLimit, direction}
 use Rattle.emissions.specs.Grid.{marginWithinLimits, weightsFull, enteredGrid, gridJudged}
@@ -155,25 +156,14 @@ lines-same (suc c) (l ∷ ls) = rw (line-same l, lines-same c ls)
 
 fuel-kind-unchanged : (k : FuelKind) → kindFits k ≡ true → fittedFuelKind k ≡ k
 fuel-kind-unchanged (Energy Q NCV C) h =
-    let p = and-both (leb Q 100000000 && leb 1 NCV && leb NCV 150000) _ h in
-    let q = and-both (leb Q 100000000 && leb 1 NCV) _ (p .0) in
-    let r = and-both (leb Q 100000000) _ (q .0) in
-    rw (
-      unchanged 4294967295 100000000 Q (omega arith) (r .0),
-      unchanged 4294967295 150000 NCV (omega arith) (q .1),
-      unchanged 4294967295 200000 C (omega arith) (p .1),
-    )
+    let l = energy-limits Q NCV C h in
+    rw (within 4294967295 Q (omega (arith, l .0)), within 4294967295 NCV (omega (arith, l .1)), within 4294967295 C (omega (arith, l .2)))
 fuel-kind-unchanged (Mass Q W) h =
-    let p = and-both (leb Q 100000000) _ h in
-    rw (unchanged 4294967295 100000000 Q (omega arith) (p .0), unchanged 4294967295 10000 W (omega arith) (p .1))
+    let l = mass-limits Q W h in
+    rw (within 4294967295 Q (omega (arith, l .0)), within 4294967295 W (omega (arith, l .1)))
 fuel-kind-unchanged (Volume Q density W) h =
-    let p = and-both (leb density 2000) _ h in
-    let q = and-both (leb Q 100000000) _ (p .1) in
-    rw (
-      unchanged 4294967295 100000000 Q (omega arith) (q .0),
-      unchanged 4294967295 2000 density (omega arith) (p .0),
-      unchanged 4294967295 10000 W (omega arith) (q .1),
-    )
+    let l = volume-limits Q density W h in
+    rw (within 4294967295 Q (omega (arith, l .0)), within 4294967295 density (omega (arith, l .1)), within 4294967295 W (omega (arith, l .2)))
 
 line-unchanged : (l : FuelLine) → withinLimits l ≡ true → fittedLine l ≡ l
 unfolding withinLimits

@@ -3,7 +3,7 @@ use Prim.Native.Nat.{ℕ, _*_, _<_, _≤_}
 use mathlib.Core.Path.{_≡_, refl, sym, ap, subst, _∙_}
 use mathlib.Core.Bool.{true, _&&_}
 use native.Mathlib.Omega.{arith}
-use native.Mathlib.Nat.{mul-le-mul-right, mul-le-mul-left}
+use native.Mathlib.Nat.{mul-le-mul}
 use lib.Dec.{leb}
 use borrow.Author.Tests.{leb-true}
 use Rattle.rounding.specs.Outcome.{refused, given}
@@ -79,41 +79,36 @@ line-refused dir l n h e = never-given (sym e ∙ line-given dir l h)
 pub line-is : (dir : Direction) (l : FuelLine) (w : ℕ) → withinLimits l ≡ true → lineMilligrams dir l ≡ given w → w ≡ roundedMilligrams dir l
 line-is dir l w h e = given-is (sym e ∙ line-given dir l h)
 
--- ---- the products within the limits, each kind's
+-- ---- the limits, and the products within them, kind by kind
 
--- A product of three bounded numbers.
-product-le : (q v c i j k : ℕ) → q ≤ i → v ≤ j → c ≤ k → q * v * c ≤ i * j * k
-product-le q v c i j k h h′ h″ =
-    omega (arith, mul-le-mul-right c (mul-le-mul-right v h), mul-le-mul-right c (mul-le-mul-left i h′), mul-le-mul-left (i * j) h″)
+pub energy-limits : (Q NCV C : ℕ) → kindFits (Energy Q NCV C) ≡ true → (Q ≤ 100000000) × (NCV ≤ 150000) × (C ≤ 200000)
+energy-limits Q NCV C e =
+    let a = and-both (leb Q 100000000 && leb 1 NCV && leb NCV 150000) _ e in
+    let b = and-both (leb Q 100000000 && leb 1 NCV) _ (a .0) in
+    let c = and-both (leb Q 100000000) (leb 1 NCV) (b .0) in
+    (leb-true _ _ (c .0), leb-true _ _ (b .1), leb-true _ _ (a .1))
 
--- A product of two.
-pair-le : (q w i j : ℕ) → q ≤ i → w ≤ j → q * w ≤ i * j
-pair-le q w i j h h′ = omega (arith, mul-le-mul-right w h, mul-le-mul-left i h′)
+pub mass-limits : (Q W : ℕ) → kindFits (Mass Q W) ≡ true → (Q ≤ 100000000) × (W ≤ 10000)
+mass-limits Q W e = let a = and-both (leb Q 100000000) _ e in (leb-true _ _ (a .0), leb-true _ _ (a .1))
+
+pub volume-limits : (Q density W : ℕ) → kindFits (Volume Q density W) ≡ true → (Q ≤ 100000000) × (density ≤ 2000) × (W ≤ 10000)
+volume-limits Q density W e =
+    let a = and-both (leb density 2000) _ e in
+    let b = mass-limits Q W (a .1) in
+    (b .0, leb-true _ _ (a .0), b .1)
 
 pub energy-product : (Q NCV C : ℕ) → kindFits (Energy Q NCV C) ≡ true → (Q * NCV ≤ 15000000000000) × (Q * NCV * C ≤ 3000000000000000000)
 energy-product Q NCV C e =
-    let a = and-both (leb Q 100000000 && leb 1 NCV && leb NCV 150000) _ e in
-    let b = and-both (leb Q 100000000 && leb 1 NCV) _ (a .0) in
-    let quantity = leb-true Q 100000000 (and-both (leb Q 100000000) (leb 1 NCV) (b .0) .0) in
-    let calorific = leb-true NCV 150000 (b .1) in (
-      pair-le Q NCV 100000000 150000 quantity calorific,
-      product-le Q NCV C 100000000 150000 200000 quantity calorific (leb-true C 200000 (a .1)),
-    )
+    let l = energy-limits Q NCV C e in
+    (mul-le-mul (l .0) (l .1), mul-le-mul (mul-le-mul (l .0) (l .1)) (l .2))
 
 pub mass-product : (Q W : ℕ) → kindFits (Mass Q W) ≡ true → Q * W ≤ 1000000000000
-mass-product Q W e =
-    let a = and-both (leb Q 100000000) _ e in
-    pair-le Q W 100000000 10000 (leb-true _ _ (a .0)) (leb-true _ _ (a .1))
+mass-product Q W e = let l = mass-limits Q W e in mul-le-mul (l .0) (l .1)
 
 pub volume-product : (Q density W : ℕ) → kindFits (Volume Q density W) ≡ true → (Q * density ≤ 200000000000) × (Q * density * W ≤ 2000000000000000)
 volume-product Q density W e =
-    let a = and-both (leb density 2000) _ e in
-    let b = and-both (leb Q 100000000) _ (a .1) in
-    let quantity = leb-true Q 100000000 (b .0) in
-    let heavy = leb-true density 2000 (a .0) in (
-      pair-le Q density 100000000 2000 quantity heavy,
-      product-le Q density W 100000000 2000 10000 quantity heavy (leb-true W 10000 (b .1)),
-    )
+    let l = volume-limits Q density W e in
+    (mul-le-mul (l .0) (l .1), mul-le-mul (mul-le-mul (l .0) (l .1)) (l .2))
 
 -- ---- the bound within the limits
 
