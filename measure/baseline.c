@@ -3,6 +3,7 @@
 #include <stdint.h>
 #include <stdbool.h>
 #include <string.h>
+#include "ledgers.h"
 
 enum side { PROJECT, LEAKAGE, BASELINE };
 enum supply_kind { COMBINED, GRID_DEFAULT, CAPTIVE, CAPTIVE_DEFAULT, EITHER };
@@ -111,45 +112,59 @@ static void add(struct consumption *c, const struct source *s) {
     if (s->side == BASELINE) c->baseline += s->energy, c->baselines++; else c->project += s->energy, c->projects++;
 }
 
-static uint64_t line_milligrams(const struct fuel_line *l, bool up) {
-    uint64_t quantity = l->quantity;
+// Adds a line's milligrams, rounded down and rounded up, by one division.
+static void add_line(const struct fuel_line *l, uint64_t *down, uint64_t *up) {
+    uint64_t quantity = l->quantity, product, divisor;
     switch (l->kind) {
-    case ENERGY: return divide(up, quantity * l->energy.ncv * l->energy.factor, 1000);
-    case MASS: return divide(up, quantity * l->mass.carbon * 1100, 3);
-    default: return divide(up, quantity * l->volume.density * l->volume.carbon * 11, 30);
+    case ENERGY: product = quantity * l->energy.ncv * l->energy.factor, divisor = 1000; break;
+    case MASS: product = quantity * l->mass.carbon * 1100, divisor = 3; break;
+    default: product = quantity * l->volume.density * l->volume.carbon * 11, divisor = 30;
     }
+    *down += divide(false, product, divisor);
+    *up += divide(true, product, divisor);
 }
 
-static int captive_factor(const struct ledger *l, uint8_t site, bool up, uint64_t *factor) {
-    uint64_t milligrams = 0, generation = 0;
+// A site's captive factor in a direction, or its refusal, 9 or 10.
+struct site_factor { uint8_t refused; uint32_t factor; };
+
+static struct site_factor site_factor(bool up, uint64_t milligrams, uint64_t generation) {
+    if (generation < 1000) return (struct site_factor){9, 0};
+    uint64_t factor = divide(up, milligrams, generation);
+    if (factor > FACTOR_LIMIT) return (struct site_factor){10, 0};
+    return (struct site_factor){0, (uint32_t)factor};
+}
+
+// The factors of the four sites, rounded down and rounded up.
+static void site_factors(const struct ledger *l, struct site_factor factors[4][2]) {
+    uint64_t down[4] = {0}, up[4] = {0}, generation[4] = {0};
     for (int i = 0; i < 8; i++) {
         const struct plant *p = &l->plants[i];
-        if (!p->stands || p->site != site) continue;
-        generation += p->generation;
-        for (int j = 0; j < p->count; j++) milligrams += line_milligrams(&p->lines[j], up);
+        if (!p->stands) continue;
+        generation[p->site] += p->generation;
+        for (int j = 0; j < p->count; j++) add_line(&p->lines[j], &down[p->site], &up[p->site]);
     }
-    if (generation < 1000) return 9;
-    *factor = divide(up, milligrams, generation);
-    return *factor > FACTOR_LIMIT ? 10 : 0;
+    for (int site = 0; site < 4; site++) {
+        factors[site][0] = site_factor(false, down[site], generation[site]);
+        factors[site][1] = site_factor(true, up[site], generation[site]);
+    }
 }
 
-static int factor_of(const struct ledger *l, const struct source *s, const struct consumption *c, bool up, uint64_t *factor) {
+static int factor_of(const struct ledger *l, const struct site_factor factors[4][2], const struct source *s, const struct consumption *c, bool up,
+                     uint64_t *factor) {
     if (s->supply != CAPTIVE && s->supply != CAPTIVE_DEFAULT && !l->grid.stands) return 8;
-    uint64_t at_site, margin = up ? l->grid.up : l->grid.down;
-    int refused;
+    uint64_t margin = up ? l->grid.up : l->grid.down;
+    const struct site_factor *captive = &factors[s->site][up];
     switch (s->supply) {
     case COMBINED: *factor = margin; return 0;
     case GRID_DEFAULT:
         if (c->baselines == 0 || c->project > c->baseline) { *factor = 1300000; return 0; }
         if (c->projects == 0 || c->baseline > c->project) { *factor = l->grid.entry.hydro ? 250000 : 400000; return 0; }
         return 11;
-    case CAPTIVE: return captive_factor(l, s->site, up, factor);
+    case CAPTIVE: *factor = captive->factor; return captive->refused;
     case CAPTIVE_DEFAULT: *factor = up ? 1300000 : 400000; return 0;
     default:
-        refused = captive_factor(l, s->site, up, &at_site);
-        if (refused) return refused;
-        *factor = (up ? at_site > margin : at_site < margin) ? at_site : margin;
-        return 0;
+        *factor = (up ? captive->factor > margin : captive->factor < margin) ? captive->factor : margin;
+        return captive->refused;
     }
 }
 
@@ -206,12 +221,14 @@ static int report_on(const struct ledger *l, struct report *r) {
         if (counts(s, false)) add(&factor, s);
         if (counts(s, true)) add(&loss, s);
     }
+    struct site_factor factors[4][2];
+    site_factors(l, factors);
     for (int i = 0; i < 32; i++) {
         const struct source *s = &l->sources[i];
         if (!s->stands) continue;
         bool up = s->side != BASELINE;
         uint64_t f, t;
-        int refused = factor_of(l, s, &factor, up, &f);
+        int refused = factor_of(l, factors, s, &factor, up, &f);
         if (!refused) refused = loss_of(s, &loss, up, &t);
         if (refused) return refused;
         uint64_t with_losses = divide(up, s->energy * (10000 + t), 10000);
@@ -234,23 +251,35 @@ static struct grid_entry grid_of(uint32_t seed) {
     return e;
 }
 
-static struct plant plant_of(uint32_t seed) {
+static uint8_t site_of(enum ledger_kind kind, uint32_t seed) { return kind == ONE_SITE ? 0 : seed % 4; }
+
+static struct plant plant_of(enum ledger_kind kind, uint32_t seed) {
     struct fuel_line line = {.kind = ENERGY, .quantity = 1000 + seed % 1000, .energy = {43000, 74100}};
-    struct plant p = {true, seed % 4, 4, 70000, {line, line, line, line}};
+    struct plant p = {true, site_of(kind, seed), 4, 70000, {line, line, line, line}};
     return p;
 }
 
-static struct source source_of(uint32_t seed) {
-    uint8_t supply = seed % 5, named = supply == CAPTIVE || supply == EITHER;
+static uint8_t supply_of(enum ledger_kind kind, uint32_t seed) {
+    static const uint8_t without_site[4] = {COMBINED, GRID_DEFAULT, CAPTIVE_DEFAULT, CAPTIVE_DEFAULT};
+    switch (kind) {
+    case NO_SITE: return without_site[seed % 4];
+    case SOME_SITES: return seed % 5;
+    case ONE_SITE: return CAPTIVE;
+    default: return EITHER;
+    }
+}
+
+static struct source source_of(enum ledger_kind kind, uint32_t seed) {
+    uint8_t supply = supply_of(kind, seed), named = supply == CAPTIVE || supply == EITHER;
     uint8_t loss = supply == CAPTIVE || supply == CAPTIVE_DEFAULT ? NOTHING : MEASURED;
-    struct source s = {true, seed % 3, supply, named ? seed % 4 : 0, loss, loss ? 500 : 0, 1000000 + seed};
+    struct source s = {true, seed % 3, supply, named ? site_of(kind, seed) : 0, loss, loss ? 500 : 0, 1000000 + seed};
     return s;
 }
 
 uint64_t plain_source(const uint32_t *words, uint32_t times, uint32_t first, uint32_t last) {
     struct ledger l;
     memset(&l, 0, sizeof l);
-    for (int i = 0; i < 8; i++) l.plants[i] = plant_of(words[1]);
+    for (int i = 0; i < 8; i++) l.plants[i] = plant_of(SOME_SITES, words[1]);
     struct meter meter = {false, true, first, last}, meters[4] = {meter, meter, meter, meter};
     struct source s = {false, PROJECT, COMBINED, 0, DEFAULT20, 0, 0};
     uint64_t sum = 0;
@@ -261,21 +290,22 @@ uint64_t plain_source(const uint32_t *words, uint32_t times, uint32_t first, uin
     return (sum + l.plants[times % 8].generation) % 0x100000000ull;
 }
 
-uint64_t plain_report(const uint32_t *words, uint32_t times) {
+uint64_t plain_report(const uint32_t *words, uint32_t kind, uint32_t times) {
     struct ledger l;
     memset(&l, 0, sizeof l);
     enter_grid(&l, grid_of(words[0]));
-    for (int i = 0; i < 8; i++) l.plants[i] = plant_of(words[1]);
-    for (int i = 0; i < 32; i++) l.sources[i] = source_of(words[2] % 0x10000);
-    uint64_t sum = 0;
+    for (int i = 0; i < 8; i++) l.plants[i] = plant_of(SOME_SITES, words[1]);
+    for (int i = 0; i < 32; i++) l.sources[i] = source_of(SOME_SITES, words[2] % 0x10000);
+    uint64_t sum = 0, refused = 0;
     for (uint32_t i = 0; i < times; i++) {
-        uint32_t number = i % 32;
-        l.plants[number % 8] = plant_of(number);
-        l.sources[number] = source_of(number);
+        uint32_t seed = i % 32;
+        l.plants[seed % 8] = plant_of(kind, seed);
+        l.sources[seed] = source_of(kind, seed);
         struct report r;
-        int refused = report_on(&l, &r);
-        uint64_t grams = refused ? (uint64_t)refused : r.grams[0] % 0x100000000ull + r.grams[1] % 0x100000000ull + r.grams[2] % 0x100000000ull;
-        sum = (sum + grams) % 0x100000000ull;
+        int refusal = report_on(&l, &r);
+        uint64_t told = refusal ? (uint64_t)refusal : (r.grams[0] + r.grams[1] + r.grams[2]) % 0x100000000ull;
+        refused += told < 256;
+        sum = (sum + told) % 0x100000000ull;
     }
-    return sum;
+    return refused * 0x100000000ull + sum;
 }

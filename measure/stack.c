@@ -6,13 +6,15 @@
 #include <string.h>
 #include <ucontext.h>
 #include "calls.h"
+#include "ledgers.h"
 
 typedef uint64_t on_words(const uint32_t *, size_t, uint32_t);
-on_words owner_grid, owner_plant, owner_drop_plant, owner_drop_source, measure_report;
+on_words owner_grid, owner_plant, owner_drop_plant, owner_drop_source;
 on_words hold_64_sources, hold_128_sources, hold_64_plants, hold_128_plants, hold_8_ledgers, hold_16_ledgers;
 uint64_t owner_source(const uint32_t *, size_t, uint32_t, uint32_t, uint32_t);
 uint64_t owner_program(const uint32_t *, size_t);
 uint64_t measure_new(uint32_t);
+uint64_t measure_report(const uint32_t *, size_t, uint32_t, uint32_t);
 
 // The number of the call, or how often a loop goes round.
 static volatile uint32_t one = 1;
@@ -20,6 +22,7 @@ static uint32_t words[32], calls[CALLS * CALL_WORDS];
 
 static uint64_t new_ledger(const uint32_t *w, size_t n, uint32_t at) { return (void)w, (void)n, measure_new(at); }
 static uint64_t owner_singles(const uint32_t *w, size_t n, uint32_t times) { return owner_source(w, n, times, 0x42f6e979, 0x47f12080); }
+static uint64_t one_report(const uint32_t *w, size_t n, uint32_t times) { return measure_report(w, n, SOME_SITES, times); }
 static uint64_t owner_calls(const uint32_t *w, size_t n, uint32_t times) { return (void)w, (void)n, (void)times, owner_program(calls, CALLS * CALL_WORDS); }
 
 // ---- a painted stack
@@ -108,7 +111,7 @@ static void count_answers(void) {
 int main(void) {
     struct { const char *name; on_words *run; } stacks[] = {
         {"program", owner_calls},        {"enter grid", owner_grid},         {"enter plant", owner_plant},  {"enter source", owner_singles},
-        {"drop plant", owner_drop_plant}, {"drop source", owner_drop_source}, {"report", measure_report}, {"Ledger::new", new_ledger},
+        {"drop plant", owner_drop_plant}, {"drop source", owner_drop_source}, {"report", one_report}, {"Ledger::new", new_ledger},
     };
     struct { const char *name; on_words *some, *twice; size_t count; } records[] = {
         {"source record", hold_64_sources, hold_128_sources, 64},

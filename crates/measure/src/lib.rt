@@ -58,6 +58,19 @@ fn grams_of(reported: Reported) -> u64 {
     }
 }
 
+// 1 for what a refused report says: its number is below 256.
+fn refusals(told: u64) -> u64 {
+    if told < 256 {
+        return 1;
+    }
+    0
+}
+
+// Two numbers of 32 bits in one.
+fn joined(high: u64, low: u64) -> u64 {
+    high % 0x1_0000_0000 * 0x1_0000_0000 + low % 0x1_0000_0000
+}
+
 fn supply_of(kind: u32, site: u8) -> Supply {
     match kind {
         0 => Supply::Combined,
@@ -77,10 +90,58 @@ fn side(seed: u32) -> Side {
 }
 
 // Captive supplies carry no loss, the others a measured one.
-fn loss(seed: u32) -> Loss {
-    match seed % 5 {
-        2 | 3 => Loss::Nothing,
+fn loss(supply: Supply) -> Loss {
+    match supply {
+        Supply::Captive(_) => Loss::Nothing,
+        Supply::CaptiveDefault => Loss::Nothing,
         _ => Loss::Measured(500),
+    }
+}
+
+// The ledgers that reports are measured on, by the sites that their 32 sources name. An exported function is given
+// a kind by its place in this list.
+enum LedgerKind {
+    // No source names a site.
+    NoSite,
+    // 12 sources name one of four sites: all supplies take turns.
+    SomeSites,
+    // All sources are captive and name one site, at which all plants stand.
+    OneSite,
+    // All sources are either and name one of four sites.
+    EitherSites,
+}
+
+fn ledger_kind(number: u32) -> LedgerKind {
+    match number {
+        0 => LedgerKind::NoSite,
+        1 => LedgerKind::SomeSites,
+        2 => LedgerKind::OneSite,
+        _ => LedgerKind::EitherSites,
+    }
+}
+
+fn site(kind: LedgerKind, seed: u32) -> u8 {
+    match kind {
+        LedgerKind::OneSite => 0,
+        _ => (seed % 4) as u8,
+    }
+}
+
+fn supply_without_site(seed: u32) -> Supply {
+    match seed % 4 {
+        0 => Supply::Combined,
+        1 => Supply::GridDefault,
+        _ => Supply::CaptiveDefault,
+    }
+}
+
+fn supply(kind: LedgerKind, seed: u32) -> Supply {
+    let site = site(kind, seed);
+    match kind {
+        LedgerKind::NoSite => supply_without_site(seed),
+        LedgerKind::SomeSites => supply_of(seed % 5, site),
+        LedgerKind::OneSite => Supply::Captive(site),
+        LedgerKind::EitherSites => Supply::Either(site),
     }
 }
 
@@ -94,21 +155,22 @@ fn energy_line(quantity: u32) -> FuelLine {
     }
 }
 
-fn plant(seed: u32) -> Plant {
+fn plant(kind: LedgerKind, seed: u32) -> Plant {
     let line = energy_line(1_000 + seed % 1_000);
     Plant {
-        site: (seed % 4) as u8,
+        site: site(kind, seed),
         count: Plant::LINES_LIMIT,
         generation: 70_000,
         lines: [line; Plant::LINE_PLACES],
     }
 }
 
-fn source(seed: u32) -> Source {
+fn source(kind: LedgerKind, seed: u32) -> Source {
+    let supply = supply(kind, seed);
     Source {
         side: side(seed),
-        supply: supply_of(seed % 5, (seed % 4) as u8),
-        loss: loss(seed),
+        supply,
+        loss: loss(supply),
         energy: 1_000_000 + seed as u64,
     }
 }
@@ -121,12 +183,20 @@ fn word(words: &[u32], i: usize) -> u32 {
     0
 }
 
+fn plant_in(kind: LedgerKind, seed: u32) -> PlantRecord {
+    PlantRecord::of(plant(kind, seed))
+}
+
+fn source_in(kind: LedgerKind, seed: u32) -> SourceRecord {
+    SourceRecord::of(source(kind, seed % 0x1_0000))
+}
+
 fn plant_record(seed: u32) -> PlantRecord {
-    PlantRecord::of(plant(seed))
+    plant_in(LedgerKind::SomeSites, seed)
 }
 
 fn source_record(seed: u32) -> SourceRecord {
-    SourceRecord::of(source(seed % 0x1_0000))
+    source_in(LedgerKind::SomeSites, seed)
 }
 
 // Two margins with a mean that is not whole, and another mean with their weights swapped.
@@ -219,21 +289,25 @@ pub extern "C" fn owner_source(words: &[u32], times: u32, first: u32, last: u32)
     folded(sum, plant.generation as u64)
 }
 
-// Reports; before each one a plant and a source are made anew, so that after 32 turns the sources stand over
-// all supplies.
+// Reports on a ledger of a kind; before each one a plant and a source are made anew, so that from the 33rd on every
+// place is filled by its own number. Answers how many of them are refused, and the sum of what they say.
 #[no_mangle]
-pub extern "C" fn measure_report(words: &[u32], times: u32) -> u64 {
+pub extern "C" fn measure_report(words: &[u32], number: u32, times: u32) -> u64 {
+    let kind = ledger_kind(number);
     let mut ledger = full(words);
     let mut sum: u64 = 0;
+    let mut refused: u64 = 0;
     let mut i: u32 = 0;
     while i < times {
-        let number = i % 32;
-        ledger.plants[(number % 8) as usize] = plant_record(number);
-        ledger.sources[number as usize] = source_record(number);
-        sum = folded(sum, grams_of(ledger.report()));
+        let seed = i % 32;
+        ledger.plants[(seed % 8) as usize] = plant_in(kind, seed);
+        ledger.sources[seed as usize] = source_in(kind, seed);
+        let told = grams_of(ledger.report());
+        sum = folded(sum, told);
+        refused = folded(refused, refusals(told));
         i += 1;
     }
-    sum
+    joined(refused, sum)
 }
 
 // A call of the functions below: an entry of the grid (0), of a plant (1) or of a source (2), a drop of a plant

@@ -5,10 +5,13 @@ use Rattle.measure.proofs.measure_report.Statement.{statement}
 use Rattle.measure.proofs.measure_report.Tie as tie
 
 abbrev Inv-loop : tie.InvT-loop
-Inv-loop words times ledger₀ sum₀ i₀ ledger sum i = i ≤ times
+Inv-loop words number times kind ledger₀ sum₀ refused₀ i₀ ledger sum refused i = i ≤ times
 
 abbrev μ-loop : tie.MeasureT-loop
-μ-loop words times ledger₀ sum₀ i₀ ledger sum i = times - i
+μ-loop words number times kind ledger₀ sum₀ refused₀ i₀ ledger sum refused i = times - i
+
+ledger-kind-requires : tie.Need-ledger-kind-requires Inv-loop μ-loop
+ledger-kind-requires c κs = search needs
 
 full-requires : tie.Need-full-requires Inv-loop μ-loop
 full-requires c κs = search needs
@@ -16,26 +19,26 @@ full-requires c κs = search needs
 loop-holds : tie.Need-loop-holds Inv-loop μ-loop
 loop-holds c = search needs
 
-plant-record-requires : tie.Need-plant-record-requires Inv-loop μ-loop
-plant-record-requires c κs = search needs
+plant-in-requires : tie.Need-plant-in-requires Inv-loop μ-loop
+plant-in-requires c κs = search needs
 
-cast-t11 : tie.Need-cast-t11 Inv-loop μ-loop
-cast-t11 c = search needs
+cast-t15 : tie.Need-cast-t15 Inv-loop μ-loop
+cast-t15 c = search needs
 
-mul-t12 : tie.Need-mul-t12 Inv-loop μ-loop
-mul-t12 c = search needs
+mul-t16 : tie.Need-mul-t16 Inv-loop μ-loop
+mul-t16 c = search needs
 
 element-set-from-ledger : tie.Need-element-set-from-ledger Inv-loop μ-loop
 element-set-from-ledger c = search needs
 
-source-record-requires : tie.Need-source-record-requires Inv-loop μ-loop
-source-record-requires c κs = search needs
+source-in-requires : tie.Need-source-in-requires Inv-loop μ-loop
+source-in-requires c κs = search needs
 
-cast-t11-2 : tie.Need-cast-t11-2 Inv-loop μ-loop
-cast-t11-2 c = search needs
+cast-t15-2 : tie.Need-cast-t15-2 Inv-loop μ-loop
+cast-t15-2 c = search needs
 
-mul-t12-2 : tie.Need-mul-t12-2 Inv-loop μ-loop
-mul-t12-2 c = search needs
+mul-t16-2 : tie.Need-mul-t16-2 Inv-loop μ-loop
+mul-t16-2 c = search needs
 
 element-set-from-ledger-2 : tie.Need-element-set-from-ledger-2 Inv-loop μ-loop
 element-set-from-ledger-2 c = search needs
@@ -49,6 +52,12 @@ grams-of-requires c κs = search needs
 folded-requires : tie.Need-folded-requires Inv-loop μ-loop
 folded-requires c κs = search needs
 
+refusals-requires : tie.Need-refusals-requires Inv-loop μ-loop
+refusals-requires c κs = search needs
+
+folded-requires-2 : tie.Need-folded-requires-2 Inv-loop μ-loop
+folded-requires-2 c κs = search needs
+
 add-i : tie.Need-add-i Inv-loop μ-loop
 add-i c = search needs
 
@@ -57,6 +66,9 @@ loop-less c = search needs
 
 loop-again : tie.Need-loop-again Inv-loop μ-loop
 loop-again c = search needs
+
+joined-requires : tie.Need-joined-requires Inv-loop μ-loop
+joined-requires c κs = search needs
 
 returns : tie.Need-returns Inv-loop μ-loop
 returns c = search needs
@@ -67,20 +79,24 @@ measure-report-spec =
     (tie.spec
     Inv-loop
     μ-loop
+    ledger-kind-requires
     full-requires
     loop-holds
-    plant-record-requires
-    cast-t11
-    mul-t12
+    plant-in-requires
+    cast-t15
+    mul-t16
     element-set-from-ledger
-    source-record-requires
-    cast-t11-2
-    mul-t12-2
+    source-in-requires
+    cast-t15-2
+    mul-t16-2
     element-set-from-ledger-2
     report-requires
     grams-of-requires
     folded-requires
+    refusals-requires
+    folded-requires-2
     add-i
     loop-less
     loop-again
+    joined-requires
     returns)
