@@ -18,6 +18,7 @@ import counterexamples
 import fuels
 import margins
 import reference
+import sites
 from reference import EnergyLine, FuelLine, MassLine, VolumeLine
 
 LINES = 60
@@ -475,7 +476,7 @@ def alone_at_zero() -> bytes:
 
 def hand_worked() -> list[bytes]:
     return [joined(line for line, _ in pairs)
-            for pairs in (*margins.LISTS.values(), *fuels.LISTS.values())]
+            for lists in (margins.LISTS, fuels.LISTS, sites.LISTS) for pairs in lists.values()]
 
 
 def margins_and_weights() -> bytes:
@@ -774,6 +775,24 @@ def lines_deciding(ledger: reference.Ledger, site: int, up: bool) -> list[FuelLi
 
 DECIDING_LINES = 6  # 3 kinds by 2 directions
 
+UNNAMED, OTHER_WAY = 'unnamed', 'named the other way'
+
+
+def refused_aside(ledger: reference.Ledger) -> set[tuple]:
+    """The refusals 9 and 10 of sites in a direction in which no source names them; a report
+    shows none of these."""
+    named = {(source.supply.site, reference.rounds_up(source.side))
+             for source in ledger.sources.values()}
+    found = set()
+    for site, up in product(range(4), (True, False)):
+        refusal = reference.site_refused(ledger, site, up)
+        if refusal is not reference.OK and (site, up) not in named:
+            found.add((refusal, OTHER_WAY if (site, not up) in named else UNNAMED))
+    return found
+
+
+REFUSED_ASIDE = {(9, UNNAMED), (10, UNNAMED), (10, OTHER_WAY)}
+
 # The answers that lines with these words should meet.
 ANSWERS_TO = {b'margins': {b'ok', b'refused 2', b'refused 14', b'refused 15'},
               b'(mass': {b'ok', b'refused 1', b'refused 2', b'refused 14'},
@@ -790,6 +809,7 @@ class Met:
         self.kinds = set()  # of the sources in reports given
         self.means = set()
         self.lines = set()  # that decide a captive factor
+        self.aside = Counter()  # reports given beside such a refusal of a site
         self.answers_to = {word: set() for word in ANSWERS_TO}
         self.most_sources = 0
 
@@ -817,6 +837,7 @@ class Met:
         self.kinds |= kinds_of(ledger, report)
         self.means |= means_of(ledger, report)
         self.lines |= deciding_lines(ledger, report)
+        self.aside.update(refused_aside(ledger))
 
     def show(self, name: str):
         refusals = ', '.join(f'{n}: {self.refusals[n]}' for n in sorted(self.refusals))
@@ -826,6 +847,9 @@ class Met:
         print(f'  in reports given, {len(self.kinds)} kinds of sources, {len(self.means)} of '
               f'sources by a mean that is not whole, {len(self.lines)} kinds and directions of '
               f'fuel lines that decide a factor, and up to {self.most_sources} sources')
+        aside = ', '.join(f'{number} {how}: {self.aside[number, how]}'
+                          for number, how in sorted(REFUSED_ASIDE))
+        print(f'  reports given with a site refused {aside}')
 
 
 def missing(at_random: Met, by_hand: Met) -> list[str]:
@@ -846,6 +870,10 @@ def missing(at_random: Met, by_hand: Met) -> list[str]:
         'every kind of fuel line decides a factor, at random':
             len(at_random.lines) == DECIDING_LINES,
         'every kind of fuel line decides a factor, by hand': len(by_hand.lines) == DECIDING_LINES,
+        'sites refused 9 and 10 that no source names, each in a tenth of the reports given, at'
+        ' random': all(at_random.aside[n, UNNAMED] * 10 >= at_random.given for n in (9, 10)),
+        'sites refused 9 and 10 that no source names, or names the other way, by hand':
+            set(by_hand.aside) == REFUSED_ASIDE,
         'every sign and exponent of a register': len(by_hand.sign_and_exponent) == 512}
     return [what for what, met in wanted.items() if not met]
 

@@ -454,16 +454,22 @@ def emission_factor(ledger: Ledger, source: Source) -> tuple[str, int]:
     return ('captive', captive) if takes_captive else ('combined', combined)
 
 
+def site_refused(ledger: Ledger, site: int, up: bool) -> int | None:
+    """9 or 10, of a site that a source names in this direction."""
+    if generation_at(ledger, site) < 1_000:
+        return 9
+    return 10 if captive_factor(ledger, site, up) > FACTOR_LIMIT else OK
+
+
 def figure_refused(ledger: Ledger, source: Source) -> int | None:
     """The refusals 8 to 12 of one source, in the order tested."""
     name, site = source.supply
     if name in GRID_SUPPLIES and ledger.grid is None:
         return 8
     if name in SITE_SUPPLIES:
-        if generation_at(ledger, site) < 1_000:
-            return 9
-        if captive_factor(ledger, site, rounds_up(source.side)) > FACTOR_LIMIT:
-            return 10
+        refusal = site_refused(ledger, site, rounds_up(source.side))
+        if refusal is not OK:
+            return refusal
     if name == 'griddefault' and grid_default_factor(ledger) is None:
         return 11
     if transmission_loss(ledger, source) is None:

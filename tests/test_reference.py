@@ -1,5 +1,5 @@
 """Document 01's listing, its bench table and hand-worked cases on the reference, with
-those of margins and of fuel by carbon content, which are document 02's.
+those of margins, of fuel by carbon content and of sites, which are document 02's.
 
 Prints each failure and, last, `N passed, M failed`; fails if M is not 0.
 """
@@ -13,6 +13,7 @@ from itertools import product
 import fuels
 import margins
 import reference
+import sites
 from reference import (EnergyLine, MassLine, Refused, VolumeLine, exact_fuel_milligrams,
                        fuel_milligrams, reading_watt_hours, tally)
 
@@ -211,6 +212,7 @@ def hand_worked(checks: Checks, of: str, lists: dict):
 def hand_worked_lists(checks: Checks):
     hand_worked(checks, 'margins', margins.LISTS)
     hand_worked(checks, 'fuels', fuels.LISTS)
+    hand_worked(checks, 'sites', sites.LISTS)
 
 
 def meters(checks: Checks):
