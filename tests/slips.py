@@ -23,6 +23,20 @@ LIMITS_BY_VOLUME = 'return f->density > 2000 || f->carbon > 10000;'
 READ_BY_MASS = '&f->quantity) || !read_next(t, &f->carbon)) return false;'
 READ_BY_VOLUME = '|| !read_next(t, &f->density) || !read_next(t, &f->carbon)) return false;'
 FUEL_END = '    return skip(t, ")");'
+FACTOR_OF_SITE = 'divided(site->milligrams[up], site->generation, up)'
+ABOVE_LIMIT = 'return *factor > FACTOR ? 10 : OK;'
+ASK_SITE = 'captive_factor(&sites[s->site], up, factor)'
+NO_GRID = 'if (on_grid(s->supply) && !l->grid.stands) return 8;'
+ADD_UP = 'add_up(l, &margins, &grid, sites);'
+NO_PLANT = 'if (!p->stands) continue;'
+
+
+def refused_by_any_site(condition: str) -> str:
+    """Asks all sites, whoever names them, and answers for source 0 where one is so."""
+    return (ADD_UP + ' for (int i = 0; i < SITES; i++) { u64 factor; int refused ='
+            f' captive_factor(&sites[i], true, &factor); if ({condition})'
+            ' { put_refused(refused); put(" source 0\\n"); return; } }')
+
 
 SLIPS = (
     # The text
@@ -65,12 +79,50 @@ SLIPS = (
     Slip("P' = B' as greater", 'up || grid->project > grid->baseline',
          'up || grid->project >= grid->baseline'),
     Slip('default losses by P and B', 'loss_of(s, &grid,', 'loss_of(s, &margins,'),
-    Slip('the plant factor to nearest',
-         'divided(site->milligrams[up], site->generation, up)',
+    Slip('the plant factor to nearest', FACTOR_OF_SITE,
          '(site->milligrams[up] + site->generation / 2) / site->generation'),
     Slip('either the wrong way round', '(up ? combined > *factor : combined < *factor)',
          '(up ? combined < *factor : combined > *factor)'),
     Slip('the number of sources inflated', '.sources++', '.sources += 2'),
+    # Sites
+    Slip('the two directions of the sums exchanged', FACTOR_OF_SITE,
+         'divided(site->milligrams[!up], site->generation, up)'),
+    Slip("the other direction's factor", ASK_SITE, 'captive_factor(&sites[s->site], !up, factor)'),
+    Slip("baseline takes project's factor", ASK_SITE,
+         'captive_factor(&sites[s->site], true, factor)'),
+    Slip("project takes baseline's factor", ASK_SITE,
+         'captive_factor(&sites[s->site], false, factor)'),
+    Slip('site 1 taken for site 0', ASK_SITE,
+         'captive_factor(&sites[s->site == 0 ? 1 : s->site], up, factor)'),
+    Slip('site 2 taken for site 3', ASK_SITE,
+         'captive_factor(&sites[s->site == 3 ? 2 : s->site], up, factor)'),
+    Slip('sites 1 and 2 exchanged', ASK_SITE,
+         'captive_factor(&sites[s->site % 3 == 0 ? s->site : 3 - s->site], up, factor)'),
+    Slip('site 0 taken for either', ASK_SITE,
+         'captive_factor(&sites[s->supply == EITHER ? 0 : s->site], up, factor)'),
+    Slip('a report refused by any site', ADD_UP, refused_by_any_site('refused != OK')),
+    Slip('a report refused 9 by any site that has a plant', ADD_UP,
+         refused_by_any_site('refused == 9 && sites[i].generation > 0')),
+    Slip('a report refused 10 by any site', ADD_UP, refused_by_any_site('refused == 10')),
+    Slip('captivedefault refused by site 0', 'if (s->supply == CAPTIVE_DEFAULT) {',
+         'if (s->supply == CAPTIVE_DEFAULT) { int r = ' + ASK_SITE + '; if (r != OK) return r;'),
+    Slip('the site asked before 8', NO_GRID,
+         'if (s->supply == EITHER) { int r = ' + ASK_SITE + '; if (r != OK) return r; } ' + NO_GRID),
+    Slip('10 by the factor up in both directions', ABOVE_LIMIT,
+         'return divided(site->milligrams[1], site->generation, true) > FACTOR ? 10 : OK;'),
+    Slip('10 by the factor down in both directions', ABOVE_LIMIT,
+         'return divided(site->milligrams[0], site->generation, false) > FACTOR ? 10 : OK;'),
+    Slip("refused with the site's number", 'put_number((u64)i);',
+         'put_number(refused == 9 || refused == 10 ? s->site : (u64)i);'),
+    Slip('the sites of the first report kept', ADD_UP,
+         ADD_UP + ' static struct site kept[SITES]; static bool known;'
+         ' if (known) memcpy(sites, kept, sizeof kept); else memcpy(kept, sites, sizeof kept);'
+         ' known = true;'),
+    Slip('the sums of the report before added to', 'struct site sites[SITES] = {0};',
+         'static struct site sites[SITES];'),
+    Slip('a plant without generation passed over', NO_PLANT,
+         'if (!p->stands || p->generation == 0) continue;'),
+    Slip('a plant that was dropped counted', NO_PLANT, ''),
     # Margins
     Slip('weights swapped',
          'g.operating.factor * g.operating.weight + g.build.factor * g.build.weight',
