@@ -21,10 +21,12 @@ from collections import Counter
 from itertools import cycle, product
 
 import reference
+import sites
 from generate import (DECIDING_LINES, EQUAL_ENERGIES, FIRST_WEIGHTS, FUEL_LIMITS,
                       LARGEST_FACTORS, LARGEST_LINES, LAST_REGISTER, LITTLE_ABOVE, LITTLE_BELOW,
-                      PARTS_OF_MILLIGRAMS, SOURCE_KINDS, SOURCE_MEANS, SPECIAL_REGISTERS,
-                      SUPPLIES, captive_factors, deciding_lines, kinds_of, means_of, with_rest)
+                      PARTS_OF_MILLIGRAMS, REFUSED_ASIDE, SOURCE_KINDS, SOURCE_MEANS,
+                      SPECIAL_REGISTERS, SUPPLIES, UNNAMED, captive_factors, deciding_lines,
+                      kinds_of, means_of, refused_aside, with_rest)
 from reference import (SIDES, EnergyLine, FuelLine, Loss, Margins, MassLine, Meter, Plant, Source,
                        Supply, VolumeLine)
 
@@ -120,6 +122,7 @@ class Calls:
         self.kinds = set()  # of the sources in reports given
         self.means = set()
         self.lines = set()  # that decide a captive factor
+        self.aside = set()  # refusals of sites that reports given do not show
         self.unread = cycle(UNREAD)
         self.new()
 
@@ -190,7 +193,22 @@ class Calls:
             self.kinds |= kinds_of(self.ledger, answer)
             self.means |= means_of(self.ledger, answer)
             self.lines |= deciding_lines(self.ledger, answer)
+            self.aside |= refused_aside(self.ledger)
         return self.add(fields, answer)
+
+    # Lines of text, whose reader calls these as it calls a ledger
+
+    def line(self, text: str):
+        return self.report() if text == '(report)' else reference.perform(self, text.encode())
+
+    def enter_grid(self, entered: int | Margins, mark: str):
+        return self.grid(entered, mark)
+
+    def enter_plant(self, number: int, plant: Plant):
+        return self.plant(number, plant.site, plant.generation, *plant.fuel_lines)
+
+    def enter_source(self, number: int, source: Source):
+        return self.source(number, source.side, source.supply, source.loss, *source.meters)
 
     # Records stored as no call does
 
@@ -660,11 +678,19 @@ def damaged_grids(calls: Calls):
     calls.report()
 
 
+def sites_named(calls: Calls):
+    """The hand-worked lists of lines."""
+    for pairs in sites.LISTS.values():
+        calls.new()
+        for line, _ in pairs:
+            calls.line(line)
+
+
 BY_HAND = (listing, grid_and_plant_limits, fuel_limits, parts_of_milligrams, unread_figures,
            margins_limits, means, marks_of_margins, source_limits, counts, registers,
            every_supply_and_loss, generation_limits, alone_at_zero, comparisons,
            either_both_ways, largest_report, source_precedence, report_precedence, replacements,
-           drops, damaged_plants, damaged_sources, damaged_grids)
+           drops, damaged_plants, damaged_sources, damaged_grids, sites_named)
 
 
 # 2. Lists at random
@@ -898,7 +924,9 @@ def check_met(by_hand: Calls, at_random: Calls):
     met = {'every kind of source is reported': len(by_hand.kinds) == SOURCE_KINDS,
            'every kind of source by a mean is reported': len(by_hand.means) == SOURCE_MEANS,
            'every kind of fuel line decides a factor up and down':
-               len(by_hand.lines) == DECIDING_LINES}
+               len(by_hand.lines) == DECIDING_LINES,
+           'sites are refused that no source names, or names the other way':
+               by_hand.aside == REFUSED_ASIDE}
     for name, calls in (('by hand', by_hand), ('at random', at_random)):
         met[f'every refusal of 1 to 12 and 15 is met {name}'] = (
             set(calls.refusals) == {*range(1, 13), 15})
@@ -906,6 +934,8 @@ def check_met(by_hand: Calls, at_random: Calls):
             len({way for _, way in calls.means}) == 3)
         met[f'every kind of fuel line decides a factor {name}'] = (
             {kind for kind, _ in calls.lines} == {*FUEL_KINDS})
+        met[f'sites that no source names are refused 9 and 10 {name}'] = (
+            {(9, UNNAMED), (10, UNNAMED)} <= calls.aside)
         met[f'damage is met {name}'] = calls.damages > 0
         met[f'a third of the reports {name} is given'] = calls.given * 3 >= calls.reports
     missing = [what for what, holds in met.items() if not holds]

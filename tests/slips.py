@@ -107,7 +107,8 @@ SLIPS = (
     Slip('captivedefault refused by site 0', 'if (s->supply == CAPTIVE_DEFAULT) {',
          'if (s->supply == CAPTIVE_DEFAULT) { int r = ' + ASK_SITE + '; if (r != OK) return r;'),
     Slip('the site asked before 8', NO_GRID,
-         'if (s->supply == EITHER) { int r = ' + ASK_SITE + '; if (r != OK) return r; } ' + NO_GRID),
+         'if (s->supply == EITHER) { int r = ' + ASK_SITE + '; if (r != OK) return r; }'
+         ' ' + NO_GRID),
     Slip('10 by the factor up in both directions', ABOVE_LIMIT,
          'return divided(site->milligrams[1], site->generation, true) > FACTOR ? 10 : OK;'),
     Slip('10 by the factor down in both directions', ABOVE_LIMIT,
