@@ -1,16 +1,16 @@
 -- What callers know of a fuel line, whatever its kind: it rounds the exact quotient, and within the limits it is given and bounded. Assumes nothing.
 use Prim.Native.Nat.{ℕ, _*_, _<_, _≤_}
-use mathlib.Core.Path.{_≡_, refl, sym, ap, subst, _∙_}
-use mathlib.Core.Bool.{true, _&&_}
+use mathlib.Core.Path.{_≡_, refl, sym, ap, subst}
+use mathlib.Core.Bool.{Bool, true, false, _&&_}
 use native.Mathlib.Omega.{arith}
 use native.Mathlib.Nat.{mul-le-mul}
 use lib.Dec.{leb}
 use borrow.Author.Tests.{leb-true}
-use Rattle.rounding.specs.Outcome.{refused, given}
+use Rattle.rounding.specs.Outcome.{refused, given, refuseUnless}
 use Rattle.rounding.specs.Divided.{Rounds}
 use Rattle.rounding.specs.Ratio.{Ratio, _÷_, whole, Conservative}
 use Rattle.rounding.specs.declared.Direction.{Direction}
-use Rattle.rounding.proofs.Outcomes.{never-given, given-is}
+use Rattle.rounding.proofs.Outcomes.{never-given, given-is, test-held}
 use Rattle.rounding.proofs.Divided.{rounds, divided-at-most}
 use Rattle.rounding.proofs.Ratio.{rounds-conservative}
 use Rattle.rounding.proofs.Tests.{and-both}
@@ -65,19 +65,22 @@ line-conservative dir l =
     subst (λ (x : Ratio). Conservative dir (roundedMilligrams dir l) x (whole 1)) (sym (line-quotient l))
     (rounds-conservative dir (exactMilligrams l .plus) (exactMilligrams l .over) (roundedMilligrams dir l) (line-rounds dir l))
 
--- ---- what a line within the limits gives
+-- ---- what a line gives
 
-line-given : (dir : Direction) (l : FuelLine) → withinLimits l ≡ true → lineMilligrams dir l ≡ given (roundedMilligrams dir l)
+-- What is given is the rounded line, and the line is within its limits. A line that is refused is not.
+pub line-gave : (dir : Direction) (l : FuelLine) (w : ℕ) → lineMilligrams dir l ≡ given w → (withinLimits l ≡ true) × (w ≡ roundedMilligrams dir l)
 unfolding lineMilligrams
-line-given dir l h = rw h
+line-gave dir l w e =
+    let p = test-held 2 (withinLimits l) _ e in
+    (p .0, sym (given-is (p .1)))
 
--- It is not refused.
-pub line-refused : (dir : Direction) (l : FuelLine) (n : ℕ) → withinLimits l ≡ true → lineMilligrams dir l ≡ refused n → ⊥
-line-refused dir l n h e = never-given (sym e ∙ line-given dir l h)
-
--- What is given is the rounded line.
-pub line-is : (dir : Direction) (l : FuelLine) (w : ℕ) → withinLimits l ≡ true → lineMilligrams dir l ≡ given w → w ≡ roundedMilligrams dir l
-line-is dir l w h e = given-is (sym e ∙ line-given dir l h)
+pub line-beyond : (dir : Direction) (l : FuelLine) (n : ℕ) → lineMilligrams dir l ≡ refused n → withinLimits l ≡ false
+unfolding lineMilligrams
+line-beyond dir l n e = go (withinLimits l) e
+  where
+    go : (t : Bool) → refuseUnless 2 t (given (roundedMilligrams dir l)) ≡ refused n → t ≡ false
+    go true e = absurd (never-given (sym e))
+    go false e = refl
 
 -- ---- the limits, and the products within them, kind by kind
 

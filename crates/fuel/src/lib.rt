@@ -3,6 +3,7 @@
 ghost use mathlib.Core.Path.{_≡_};
 ghost use mathlib.Core.Bool.{true};
 ghost use Rattle.rounding.specs.Ratio.{_÷_};
+ghost use Rattle.rounding.specs.declared.Direction.the-variants.{Up, Down};
 ghost use Rattle.fuel.specs.declared.FuelKind.the-variants.{Energy, Mass, Volume};
 ghost use Rattle.fuel.specs.Fuel.{
   noLine,
@@ -51,6 +52,12 @@ struct Unrounded {
 pub enum Milligrams {
     Refused,
     Rounded(u64),
+}
+
+// A line's milligrams rounded up and down, for project and leakage and for baseline.
+pub struct BothWays {
+    pub up: Milligrams,
+    pub down: Milligrams,
 }
 
 impl FuelLine {
@@ -131,16 +138,25 @@ impl FuelLine {
         }
     }
 
-    // The milligrams of CO2 of the line, rounded. Out of its limits nothing is computed, so that no
-    // product wraps at any value of the fields.
-    pub fn milligrams(self, direction: Direction) -> Milligrams
-        ensures { λ r. ⌜ milligramsMeaning r ≡ lineMilligrams direction self ⌝ }
+    // The milligrams of CO2 of the line, rounded both ways: so the limits are tested once, and one quotient serves
+    // both. Out of the limits nothing is computed, so that no product wraps at any value of the fields.
+    pub fn milligrams(self) -> BothWays
+        ensures up { λ r. ⌜ milligramsMeaning (r .up) ≡ lineMilligrams Up self ⌝ }
+        ensures down { λ r. ⌜ milligramsMeaning (r .down) ≡ lineMilligrams Down self ⌝ }
     {
         if self.is_within_limits() {
             let exact = self.unrounded();
-            return Milligrams::Rounded(rounding::divide(direction, exact.product, exact.divisor));
+            let up = rounding::divide(Direction::Up, exact.product, exact.divisor);
+            let down = rounding::divide(Direction::Down, exact.product, exact.divisor);
+            return BothWays {
+                up: Milligrams::Rounded(up),
+                down: Milligrams::Rounded(down),
+            };
         }
-        Milligrams::Refused
+        BothWays {
+            up: Milligrams::Refused,
+            down: Milligrams::Refused,
+        }
     }
 }
 

@@ -119,7 +119,7 @@ shown s n a none p q = absurd (never-some q)
 shown s n a (some e) p q = (e, p, cc)
 
 all-shown : (s : Standing) → All (Shown s) (sourcesOf (inputOfStanding s))
-all-shown s = standing-all (inputOfStanding s .source) (Shown s) (λ n a q. shown s n a (s .source n) refl q) 0 32
+all-shown s = standing-all (inputOfStanding s .source) (Shown s) 0 32 (λ n a q l u. shown s n a (s .source n) refl q)
 
 -- The source has a figure.
 abbrev Counted : Standing → Numbered Source → Type 0

@@ -1,7 +1,7 @@
 -- How an entry and a drop are judged, test by test in the order of the code, and what an answer says of it. Assumes nothing.
 use Prim.Native.Nat.{ℕ, _+_, _≤_, _<_}
 use mathlib.Core.Path.{_≡_, refl, sym, ap, _∙_}
-use mathlib.Core.Bool.{Bool, true, false, _&&_}
+use mathlib.Core.Bool.{Bool, true, false, not, _&&_}
 use mathlib.Core.List.{List}
 use native.Mathlib.Numerals.{add-one}
 use native.Mathlib.Omega.{arith}
@@ -17,7 +17,9 @@ use Rattle.metering.specs.declared.EnergyJudged.{EnergyJudged}
 use Rattle.fuel.specs.Fuel.{withinLimits}
 use Rattle.fuel.specs.declared.FuelLine.{FuelLine}
 use Rattle.emissions.specs.Factor.{direction}
-use Rattle.records.specs.Judging.{linesOf, allWithinLimits, plantJudged, supplyWithinLimits, lossWithinLimits, lossMatches, onRead, onEnergy, kept, sourceJudged, answerOf}
+use Rattle.emissions.specs.declared.Loss.{Loss}
+use Rattle.emissions.specs.declared.Loss.the-variants.{Nothing, Measured, Default20, Default3}
+use Rattle.records.specs.Judging.{linesOf, allWithinLimits, plantJudged, supplyWithinLimits, lossWithinLimits, isNothing, isSomething, lossMatches, onRead, onEnergy, kept, sourceJudged, answerOf}
 use Rattle.records.specs.declared.Answer.the-variants.{Accepted, Refused}
 use Rattle.records.specs.declared.Plant.{Plant}
 use Rattle.records.specs.declared.SourceEntry.{SourceEntry}
@@ -66,20 +68,15 @@ module _ (n : ℕ) (p : Plant) where
     plant-site k = rw (le-leb n 7 h, lt-leb (p .site) 3 k)
 
     module _ (k : p .site ≤ 3) where
-      pub plant-count : 4 < p .count → plantJudged n p ≡ refused 2
+      pub plant-figures : (leb (p .count) 4 && leb (p .generation) 100000000) ≡ false → plantJudged n p ≡ refused 2
       unfolding plantJudged
-      plant-count m = rw (le-leb n 7 h, le-leb (p .site) 3 k, lt-leb (p .count) 4 m)
+      plant-figures e = rw (le-leb n 7 h, le-leb (p .site) 3 k, e)
 
-      module _ (m : p .count ≤ 4) where
-        pub plant-generation : 100000000 < p .generation → plantJudged n p ≡ refused 2
-        unfolding plantJudged
-        plant-generation g = rw (le-leb n 7 h, le-leb (p .site) 3 k, le-leb (p .count) 4 m, lt-leb (p .generation) 100000000 g)
-
-        -- The lines decide where the numbers let the plant through.
-        pub plant-lines : p .generation ≤ 100000000 → (t : Bool) → allWithinLimits (take (p .count) (p .lines)) ≡ t
-            → plantJudged n p ≡ refuseUnless 2 t (given p)
-        unfolding plantJudged linesOf
-        plant-lines g t e = rw (le-leb n 7 h, le-leb (p .site) 3 k, le-leb (p .count) 4 m, le-leb (p .generation) 100000000 g, e)
+      -- The lines decide where the numbers let the plant through.
+      pub plant-lines : (leb (p .count) 4 && leb (p .generation) 100000000) ≡ true → (t : Bool) → allWithinLimits (take (p .count) (p .lines)) ≡ t
+          → plantJudged n p ≡ refuseUnless 2 t (given p)
+      unfolding plantJudged linesOf
+      plant-lines g t e = rw (le-leb n 7 h, le-leb (p .site) 3 k, g, e)
 
 -- A plant is given as it was entered.
 pub plant-given : (n : ℕ) (p a : Plant) → plantJudged n p ≡ given a → a ≡ p
@@ -93,6 +90,13 @@ pub plant-accepted : (n : ℕ) (p : Plant) → answerOf (plantJudged n p) ≡ Ac
 plant-accepted n p e = let g = was-given (plantJudged n p) e in g .1 ∙ ap given (plant-given n p (g .0) (g .1))
 
 -- ---- a source
+
+-- A loss is something where it is not nothing.
+pub something : (l : Loss) (b : Bool) → b ≡ isNothing l → not b ≡ isSomething l
+something Nothing b e = ap not e
+something (Measured T) b e = ap not e
+something Default20 b e = ap not e
+something Default3 b e = ap not e
 
 -- What follows from the energy, and from the meters' sums.
 abbrev pub settled : SourceEntry → EnergyJudged → Outcome Source

@@ -3,9 +3,11 @@
 // (document 01, "How each operation declines").
 ghost use mathlib.Core.Path.{_≡_};
 ghost use Prim.Native.Nat.{_≤_};
+ghost use mathlib.Core.Bool.{_&&_};
+ghost use lib.Dec.{leb};
 ghost use lib.ListN.{take};
 ghost use Rattle.emissions.specs.Grid.{gridJudged};
-ghost use Rattle.records.specs.Judging.{lastPlant, lastSource, linesLimit, answerOf, allWithinLimits, plantJudged, supplyWithinLimits, lossWithinLimits, isNothing, lossMatches, sourceJudged, dropJudged, whereGiven};
+ghost use Rattle.records.specs.Judging.{lastPlant, lastSource, linesLimit, generationLimit, answerOf, allWithinLimits, plantJudged, supplyWithinLimits, lossWithinLimits, isNothing, lossMatches, sourceJudged, dropJudged, whereGiven};
 ghost use Rattle.records.specs.Records.{noGrid, noPlant, noSource, gridRecord, plantRecord, sourceRecord, heldPlant, heldSource};
 ghost use Rattle.records.specs.Steps.{sourceMeaning};
 use emissions::Grid;
@@ -104,7 +106,12 @@ impl Plant {
 
     pub const PLACES: usize = Plant::NUMBERS as usize;
 
+    // The last site, how many sites there are, and the places for them in a table.
     pub const SITE_LIMIT: u8 = 3;
+
+    pub const SITES: u8 = Plant::SITE_LIMIT + 1;
+
+    pub const SITE_PLACES: usize = Plant::SITES as usize;
 
     // The most fuel lines, and the places for them in an entry.
     pub const LINES_LIMIT: u8 = 4;
@@ -112,6 +119,16 @@ impl Plant {
     pub const LINE_PLACES: usize = Plant::LINES_LIMIT as usize;
 
     pub const GENERATION_LIMIT: u32 = 100_000_000;
+
+    // Whether the number of fuel lines and the generation are within their limits.
+    pub fn figures_fit(self) -> bool
+        ensures { λ r. ⌜ r ≡ (leb (self .count) linesLimit && leb (self .generation) generationLimit) ⌝ }
+    {
+        if self.count > Plant::LINES_LIMIT {
+            return false;
+        }
+        self.generation <= Plant::GENERATION_LIMIT
+    }
 
     // The entry's refusals 1 and 2 (document 01, "Plant entry").
     pub fn judged(self, number: u8) -> Answer
@@ -123,10 +140,7 @@ impl Plant {
         if self.site > Plant::SITE_LIMIT {
             return Answer::Refused(1);
         }
-        if self.count > Plant::LINES_LIMIT {
-            return Answer::Refused(2);
-        }
-        if self.generation > Plant::GENERATION_LIMIT {
+        if self.figures_fit() == false {
             return Answer::Refused(2);
         }
         let lines = self.lines;
@@ -156,7 +170,7 @@ fn are_within_limits(lines: [FuelLine; Plant::LINE_PLACES], count: usize) -> boo
 }
 
 // Whether the site that a supply names, if it names one, is in range.
-pub fn supply_is_within_limits(supply: Supply) -> bool
+fn supply_is_within_limits(supply: Supply) -> bool
     ensures { λ r. ⌜ r ≡ supplyWithinLimits supply ⌝ }
 {
     match supply {
@@ -180,7 +194,7 @@ pub fn loss_is_within_limits(loss: Loss) -> bool
     }
 }
 
-fn is_nothing(loss: Loss) -> bool
+pub fn is_nothing(loss: Loss) -> bool
     ensures { λ r. ⌜ r ≡ isNothing loss ⌝ }
 {
     match loss {
@@ -192,7 +206,7 @@ fn is_nothing(loss: Loss) -> bool
 }
 
 // Whether the loss goes with the supply: captive supplies carry none, the others carry one.
-pub fn is_matched(supply: Supply, loss: Loss) -> bool
+fn is_matched(supply: Supply, loss: Loss) -> bool
     ensures { λ r. ⌜ r ≡ lossMatches supply loss ⌝ }
 {
     let none = is_nothing(loss);

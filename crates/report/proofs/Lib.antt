@@ -1,6 +1,5 @@
 pub mod Lists
 pub mod Summing
 pub mod Sites
-pub mod Intact
 pub mod Signed
 pub mod Walks

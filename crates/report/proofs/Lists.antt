@@ -8,9 +8,15 @@ use mathlib.Core.Option.{Option, none, some, Option·some-injective, Option·non
 use mathlib.Core.Logic.{inl, inr}
 use native.Mathlib.Omega.{arith}
 use native.Mathlib.Nat.{eq-or-lt-of-le}
-use lib.ListN.{length}
+use lib.ListN.{length, getD}
 use Rattle.rounding.specs.Lists.{All}
 use Rattle.report.specs.Report.{Numbered, prependStanding, standing, selected}
+
+-- An element of a list does not depend on what is read past its end.
+pub getD-any : {A : Type 0} (xs : List A) (i : ℕ) (d e : A) → i < length xs → getD xs i d ≡ getD xs i e
+getD-any [] i d e h = absurd (omega arith)
+getD-any (x ∷ xs) zero d e h = refl
+getD-any (x ∷ xs) (suc i) d e h = getD-any xs i d e (omega arith)
 
 abbrev pub numbered : {A : Type 0} → ℕ → A → Numbered A
 numbered n a = record { number = n; item = a }
@@ -33,12 +39,14 @@ module _ {A : Type 0} (P : Numbered A → Type 0) where
   prepend-rest n (some b) l k = k .1
 
 module _ {A : Type 0} (place : ℕ → Option A) (P : Numbered A → Type 0) where
-  -- What holds of each item that stands holds of the list of them,
-  pub standing-all : ((n : ℕ) (a : A) → place n ≡ some a → P (numbered n a)) → (from count : ℕ) → All P (standing place from count)
+  -- What holds of each item that stands under some numbers holds of the list of them,
+  pub standing-all : (from count : ℕ) → ((n : ℕ) (a : A) → place n ≡ some a → from ≤ n → n < from + count → P (numbered n a))
+      → All P (standing place from count)
   unfolding standing
-  standing-all h from zero = tt
-  standing-all h from (suc count) =
-      prepend-all P from (place from) (standing place (suc from) count) (h from) (standing-all h (suc from) count)
+  standing-all from zero h = tt
+  standing-all from (suc count) h =
+      prepend-all P from (place from) (standing place (suc from) count) (λ a e. h from a e (omega arith) (omega arith))
+      (standing-all (suc from) count (λ n a e l u. h n a e (omega arith) (omega arith)))
 
   -- and back.
   pub standing-at : (from count : ℕ) → All P (standing place from count) → (n : ℕ) (a : A) → place n ≡ some a → from ≤ n → n < from + count

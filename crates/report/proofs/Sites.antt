@@ -66,7 +66,7 @@ site-sound place h S =
     let ps = plantsAt S (plantsIn place) in
     let short : length ps ≤ 8 = omega (arith, at-site-length S (plantsIn place), standing-length (plainAt place) 0 8) in
     let sound : All PlantSound ps =
-    at-site PlantSound S (plantsIn place) (standing-all (plainAt place) (λ (x : Numbered PlainPlant). PlantSound (x .item)) (λ n. read-sound (place n) (h n)) 0 8) in
+    at-site PlantSound S (plantsIn place) (standing-all (plainAt place) (λ (x : Numbered PlainPlant). PlantSound (x .item)) 0 8 (λ n p e l u. read-sound (place n) (h n) p e)) in
     record {
       over = sum-over exactPlant ps (all-of plant-over ps);
       unsigned = sum-unsigned exactPlant ps (all-of plant-unsigned ps);

@@ -1,50 +1,59 @@
 -- Sums over what stands, one number at a time: what the number before the rest adds, that each record is intact where all are, and the bounds
 -- of an intact plant and source. Assumes nothing.
-use Prim.Native.Nat.{ℕ, zero, suc, _+_, _-_, _≤_, _<_, zero-le}
+use Prim.Native.Nat.{ℕ, zero, suc, _+_, _-_, _*_, _≤_, _<_, zero-le}
 use mathlib.Core.Path.{_≡_, refl, sym, subst, ap, _∙_}
-use mathlib.Core.Bool.{Bool, true, false, cond, _&&_}
+use mathlib.Core.Bool.{Bool, true, false, cond, _&&_, true≢false}
 use mathlib.Core.List.{List, [], _∷_, map}
 use mathlib.Core.Option.{Option, none, some, Option·map}
 use mathlib.Core.Logic.{inl, inr}
 use native.Mathlib.Numerals.{add-one}
 use native.Mathlib.Omega.{arith}
 use native.Mathlib.Nat.{eq-or-lt-of-le}
-use lib.Dec.{leb, eqb}
-use lib.ListN.{length, getD, take, drop, drop-of-length-le}
-use lib.Seq.{drop-cons, getD-take, length-take-le}
-use borrow.Author.Tests.{leb-true}
+use lib.Dec.{eqb}
+use lib.ListN.{length, getD, set, take, drop, drop-of-length-le}
+use lib.Seq.{drop-cons, getD-take, getD-set-same, getD-set-other, length-take-le}
+use borrow.Author.Tests.{leb-true, eqb-true, eqb-false}
 use Rattle.rounding.specs.Divided.{sum}
 use Rattle.rounding.specs.declared.Direction.{Direction}
 use Rattle.rounding.specs.declared.Direction.the-variants.{Up, Down}
-use Rattle.rounding.proofs.Tests.{and-both}
+use Rattle.rounding.proofs.Tests.{and-both, lt-or-ge}
 use Rattle.metering.specs.Reading.{limit}
-use Rattle.fuel.specs.Fuel.{withinLimits, roundedMilligrams}
+use Rattle.fuel.specs.Fuel.{roundedMilligrams, lineMilligrams}
+use Rattle.fuel.proofs.Fuel.{line-gave, line-bound}
 use Rattle.fuel.specs.declared.FuelLine.{FuelLine}
-use Rattle.rounding.specs.Outcome.{Outcome, refused, given}
+use Rattle.rounding.specs.Outcome.{given}
 use Rattle.emissions.specs.Factor.{direction}
 use Rattle.emissions.specs.declared.Consumption.{Consumption}
 use Rattle.emissions.specs.declared.Side.{Side}
 use Rattle.emissions.specs.declared.Supply.{Supply}
-use Rattle.rounding.proofs.Outcomes.{test-held}
-use Rattle.report.specs.Report.{PlainPlant, plainOf, Numbered, prependStanding, standing, plainAt, selected, consumption, plantsAt}
-use Rattle.records.specs.Judging.{supplyWithinLimits, lossWithinLimits, lossMatches, linesOf, allWithinLimits, plantJudged}
-use Rattle.records.specs.Records.{noPlant, noSource, plantIn, sourceIn, plantPlace, sourcePlace}
-use Rattle.report.specs.Intact.{isGiven, plantIntact, sourceIntact, allIntact}
-use Rattle.report.specs.Steps.{ofDirection, share, summed, ConsumptionWithin, withShare, addedAt}
+use Rattle.report.specs.Report.{PlainPlant, plainOf, Numbered, prependStanding, standing, plainAt, selected, consumption, plantMilligrams, plantsAt, siteOf}
+use Rattle.records.specs.Judging.{lastSite, supplyWithinLimits, lossWithinLimits, lossMatches}
+use Rattle.records.specs.Records.{noPlant, heldPlant, plantIn, plantPlace, sourcePlace}
+use Rattle.records.proofs.Judged.{plant-site}
+use Rattle.report.specs.Intact.{isGiven, plantIntact, sourceIntact, allIntact, sourcesIntact}
+use Rattle.report.specs.Steps.{ofDirection, share, summed, ConsumptionWithin, withShare, totalsOf, totalsSummed, plantSums, plantSummed, noPlants, sitePlus, SiteWithin, siteSums}
+use Rattle.report.specs.declared.SiteSums.{SiteSums}
+use Rattle.report.specs.declared.PlantSummed.the-variants as plantCase
+use Rattle.report.specs.declared.Totals.{Totals}
+use Rattle.report.specs.declared.TotalsSummed.the-variants as totalsCase
 use Rattle.records.specs.declared.Plant.{Plant}
 use Rattle.records.specs.declared.Source.{Source}
 use Rattle.records.specs.declared.PlantRecord.{PlantRecord}
 use Rattle.records.specs.declared.SourceRecord.{SourceRecord}
-use Rattle.report.proofs.Intact.{getD-any}
+use Rattle.report.proofs.Lists.{getD-any}
 
 -- ---- a place
 
 -- A record that was read shows what stands under its number.
-pub plant-at : (rs : List PlantRecord) (i : ℕ) (d : PlantRecord) → i < length rs → plantIn (getD rs i d) ≡ plantPlace rs i
+plant-at : (rs : List PlantRecord) (i : ℕ) (d : PlantRecord) → i < length rs → plantIn (getD rs i d) ≡ plantPlace rs i
 plant-at rs i d h = ap plantIn (getD-any rs i d noPlant h)
 
-pub source-at : (rs : List SourceRecord) (i : ℕ) (d : SourceRecord) → i < length rs → sourceIn (getD rs i d) ≡ sourcePlace rs i
-source-at rs i d h = ap sourceIn (getD-any rs i d noSource h)
+pub plant-stands : (rs : List PlantRecord) (i : ℕ) (d : PlantRecord) (p : Plant) → i < length rs → getD rs i d .stands ≡ true
+    → p ≡ heldPlant (getD rs i d) → plantPlace rs i ≡ some p
+plant-stands rs i d p h s e = sym (plant-at rs i d h) ∙ rw (s, e)
+
+pub no-plant-stands : (rs : List PlantRecord) (i : ℕ) (d : PlantRecord) → i < length rs → getD rs i d .stands ≡ false → plantPlace rs i ≡ none
+no-plant-stands rs i d h s = sym (plant-at rs i d h) ∙ rw s
 
 -- What stands under the last numbers, of n: the first of them, then the others.
 pub rest-next : {A : Type 0} (place : ℕ → Option A) (n i : ℕ) → i < n
@@ -75,26 +84,54 @@ intact-at p place (suc n) i h l =
       | inr k ↦ intact-at p place n i (b .1) k
     ]
 
+-- One more that is intact.
+pub intact-next : {A : Type 0} (p : Option A → Bool) (place : ℕ → Option A) (i : ℕ) → p (place i) ≡ true → allIntact p place i ≡ true
+    → allIntact p place (i + 1) ≡ true
+unfolding allIntact
+intact-next p place i h before = rw (add-one, h, before)
+
+-- Where one is not, not all are.
+pub not-intact : {A : Type 0} (p : Option A → Bool) (place : ℕ → Option A) (n i : ℕ) → i < n → p (place i) ≡ false → allIntact p place n ≡ false
+not-intact p place n i l e = go (allIntact p place n) refl
+  where
+    go : (t : Bool) → allIntact p place n ≡ t → allIntact p place n ≡ false
+    go true h = absurd (true≢false (sym (intact-at p place n i h l) ∙ e))
+    go false h = h
+
 -- ---- an intact plant
 
-pub record PlantLimits (p : Plant) : Type 0 where
-  pub count : p .count ≤ 4
-  pub generation : p .generation ≤ 100000000
-  pub lines : allWithinLimits (linesOf p) ≡ true
+-- It names one of the four sites.
+pub plant-site-fits : (p : Plant) → plantIntact (some p) ≡ true → p .site ≤ lastSite
+plant-site-fits p h = elim (lt-or-ge lastSite (p .site)) [
+  | inl l ↦ absurd (true≢false (sym h ∙ ap isGiven (plant-site 0 p zero-le l)))
+  | inr k ↦ k
+]
 
-was-given : {A : Type 0} (o : Outcome A) → isGiven o ≡ true → (a : A) × (o ≡ given a)
-was-given (refused n) e = absurd (let z : _≡_ {A = ℕ} 0 1 = cc in omega arith)
-was-given (given a) e = (a, refl)
+-- What is summed up says whether it is intact: of a plant, and of all sources.
+chosen-first : {X : Type 0} (t : Bool) (a b x : X) → (x ≡ b → ⊥) → x ≡ cond t a b → (t ≡ true) × (x ≡ a)
+chosen-first true a b x n e = (refl, e)
+chosen-first false a b x n e = absurd (n e)
 
-pub plant-limits : (p : Plant) → plantIntact (some p) ≡ true → PlantLimits p
-unfolding plantJudged
-plant-limits p h =
-    let g = was-given _ h in
-    let q = test-held 1 (leb 0 7 && leb (p .site) 3) _ (g .1) in
-    let r = test-held 2 (leb (p .count) 4 && leb (p .generation) 100000000 && allWithinLimits (linesOf p)) (given p) (q .1) in
-    let t = and-both (leb (p .count) 4 && leb (p .generation) 100000000) _ (r .0) in
-    let u = and-both (leb (p .count) 4) _ (t .0) in
-    record { count = leb-true _ _ (u .0); generation = leb-true _ _ (u .1); lines = t .1 }
+chosen-second : {X : Type 0} (t : Bool) (a b x : X) → (x ≡ a → ⊥) → x ≡ cond t a b → t ≡ false
+chosen-second true a b x n e = absurd (n e)
+chosen-second false a b x n e = refl
+
+pub plant-gave : (p : Plant) (s : SiteSums) → plantCase.Summed s ≡ plantSummed p → (plantIntact (some p) ≡ true) × (s ≡ plantSums (plainOf p))
+plant-gave p s e =
+    let g = chosen-first (plantIntact (some p)) (plantCase.Summed (plantSums (plainOf p))) plantCase.Damaged (plantCase.Summed s) (λ k. let z : _≡_ {A = ℕ} 0 1 = cc in omega arith) e in
+    (g .0, cc)
+
+pub plant-damaged : (p : Plant) → plantCase.Damaged ≡ plantSummed p → plantIntact (some p) ≡ false
+plant-damaged p e = chosen-second (plantIntact (some p)) (plantCase.Summed (plantSums (plainOf p))) plantCase.Damaged plantCase.Damaged (λ k. let z : _≡_ {A = ℕ} 0 1 = cc in omega arith) e
+
+pub totals-gave : (sources : List SourceRecord) (t : Totals) → totalsCase.Summed t ≡ totalsSummed sources
+    → (sourcesIntact sources ≡ true) × (t ≡ totalsOf (sourcePlace sources))
+totals-gave sources t e =
+    let g = chosen-first (sourcesIntact sources) (totalsCase.Summed (totalsOf (sourcePlace sources))) totalsCase.Damaged (totalsCase.Summed t) (λ k. let z : _≡_ {A = ℕ} 0 1 = cc in omega arith) e in
+    (g .0, cc)
+
+pub totals-damaged : (sources : List SourceRecord) → totalsCase.Damaged ≡ totalsSummed sources → sourcesIntact sources ≡ false
+totals-damaged sources e = chosen-second (sourcesIntact sources) (totalsCase.Summed (totalsOf (sourcePlace sources))) totalsCase.Damaged totalsCase.Damaged (λ k. let z : _≡_ {A = ℕ} 0 1 = cc in omega arith) e
 
 -- ---- a plant's lines
 
@@ -105,32 +142,41 @@ linesFrom ls n i = drop i (take n ls)
 abbrev pub milligramsFrom : Direction → List FuelLine → ℕ → ℕ → ℕ
 milligramsFrom dir ls n i = sum (map (roundedMilligrams dir) (linesFrom ls n i))
 
-module _ (ls : List FuelLine) (n i : ℕ) (room : n ≤ length ls) where
-  next-line : (d : FuelLine) → i < n → linesFrom ls n i ≡ getD ls i d ∷ linesFrom ls n (i + 1)
-  next-line d h =
-      let m : i < length (take n ls) = rw (length-take-le n ls room) h in
-      rw (add-one, drop-cons (take n ls) i d m, getD-take n ls i d h)
+-- The milligrams of the lines before line i: with those of the others they come to those of all.
+pub record LinesSummed (dir : Direction) (ls : List FuelLine) (n i summed : ℕ) : Type 0 where
+  pub whole : summed + milligramsFrom dir ls n i ≡ milligramsFrom dir ls n 0
+  pub bound : summed ≤ i * 3000000000000000
 
-  -- Line i is within its limits where all from it on are, and so are the others.
-  pub line-within : (d : FuelLine) → i < n → allWithinLimits (linesFrom ls n i) ≡ true
-      → (withinLimits (getD ls i d) ≡ true) × (allWithinLimits (linesFrom ls n (i + 1)) ≡ true)
-  unfolding allWithinLimits
-  line-within d h e = and-both (withinLimits (getD ls i d)) _ (sym (ap allWithinLimits (next-line d h)) ∙ e)
+module _ (dir : Direction) (ls : List FuelLine) (n : ℕ) where
+  pub lines-start : LinesSummed dir ls n 0 0
+  lines-start = record { whole = omega arith; bound = zero-le }
 
-  pub line-turn : (dir : Direction) (d : FuelLine) → i < n
-      → milligramsFrom dir ls n i ≡ roundedMilligrams dir (getD ls i d) + milligramsFrom dir ls n (i + 1)
-  unfolding sum
-  line-turn dir d h = ap (λ (xs : List FuelLine). sum (map (roundedMilligrams dir) xs)) (next-line d h)
+  module _ (i s : ℕ) (room : n ≤ length ls) (before : LinesSummed dir ls n i s) where
+    pub lines-turn : (d : FuelLine) (w : ℕ) → i < n → lineMilligrams dir (getD ls i d) ≡ given w → LinesSummed dir ls n (i + 1) (s + w)
+    unfolding sum
+    lines-turn d w h e =
+        let g = line-gave dir (getD ls i d) w e in
+        let m : i < length (take n ls) = rw (length-take-le n ls room) h in
+        let next : linesFrom ls n i ≡ getD ls i d ∷ linesFrom ls n (i + 1) = rw (add-one, drop-cons (take n ls) i d m, getD-take n ls i d h) in
+        record {
+          whole = omega (arith, g .1, ap (λ (xs : List FuelLine). sum (map (roundedMilligrams dir) xs)) next, before .whole);
+          bound = omega (arith, g .1, line-bound dir (getD ls i d) (g .0), before .bound);
+        }
 
-  pub line-end : (dir : Direction) → n ≤ i → milligramsFrom dir ls n i ≡ 0
-  unfolding sum
-  line-end dir h =
-      let m : length (take n ls) ≤ i = rw (length-take-le n ls room) h in
-      rw (drop-of-length-le (take n ls) m)
+    pub lines-end : n ≤ i → s ≡ milligramsFrom dir ls n 0
+    unfolding sum
+    lines-end h =
+        let m : length (take n ls) ≤ i = rw (length-take-le n ls room) h in
+        let none-left : milligramsFrom dir ls n i ≡ 0 = rw (drop-of-length-le (take n ls) m) in
+        omega (arith, none-left, before .whole)
 
 -- ---- the plants at a site
 
--- What stands under a number adds its part to a sum over the plants at a site.
+-- What stands under a number adds so much to a sum over the plants at a site.
+abbrev addedAt : ℕ → (PlainPlant → ℕ) → Option Plant → ℕ
+addedAt S f none = 0
+addedAt S f (some p) = cond (eqb (p .site) S) (f (plainOf p)) 0
+
 site-adds : (S : ℕ) (f : PlainPlant → ℕ) (i : ℕ) (o : Option Plant) (xs : List (Numbered PlainPlant))
     → sum (map f (plantsAt S (prependStanding i (Option·map plainOf o) xs))) ≡ addedAt S f o + sum (map f (plantsAt S xs))
 unfolding plantsAt selected sum
@@ -142,23 +188,99 @@ site-adds S f i (some p) xs = go (eqb (p .site) S) refl
     go true e = rw e
     go false e = rw e (omega arith)
 
--- The sum over the plants at a site that stand under the numbers from i, of n.
-abbrev pub siteFrom : ℕ → (PlainPlant → ℕ) → (ℕ → Option Plant) → ℕ → ℕ → ℕ
-siteFrom S f place n i = sum (map f (plantsAt S (standing (plainAt place) i (n - i))))
+-- ---- the sums of a site
 
-pub site-turn : (S : ℕ) (f : PlainPlant → ℕ) (place : ℕ → Option Plant) (n i : ℕ) → i < n
-    → siteFrom S f place n i ≡ addedAt S f (place i) + siteFrom S f place n (i + 1)
-site-turn S f place n i h =
-    ap (λ (xs : List (Numbered PlainPlant)). sum (map f (plantsAt S xs))) (rest-next (plainAt place) n i h)
-    ∙ site-adds S f i (place i) (standing (plainAt place) (i + 1) (n - (i + 1)))
+same-sums : {a b : SiteSums} → a .up ≡ b .up → a .down ≡ b .down → a .generation ≡ b .generation → a ≡ b
+same-sums {a} {b} e f g =
+    ap (λ (t : ℕ). of t (a .down) (a .generation)) e ∙ ap (λ (t : ℕ). of (b .up) t (a .generation)) f ∙ ap (of (b .up) (b .down)) g
+  where
+    of : ℕ → ℕ → ℕ → SiteSums
+    of u d g = record { up = u; down = d; generation = g }
 
-pub site-end : (S : ℕ) (f : PlainPlant → ℕ) (place : ℕ → Option Plant) (n i : ℕ) → n ≤ i → siteFrom S f place n i ≡ 0
-unfolding plantsAt selected sum
-site-end S f place n i h = rw (rest-none (plainAt place) n i h)
+plus-none : (s : SiteSums) → sitePlus s noPlants ≡ s
+plus-none s = same-sums (omega arith) (omega arith) (omega arith)
+
+plus-assoc : (a b c : SiteSums) → sitePlus (sitePlus a b) c ≡ sitePlus a (sitePlus b c)
+plus-assoc a b c = same-sums (omega arith) (omega arith) (omega arith)
+
+none-within : (n : ℕ) → SiteWithin n noPlants
+none-within n = record { up = zero-le; down = zero-le; generation = zero-le }
+
+pub sums-widen : {m n : ℕ} {s : SiteSums} → m ≤ n → SiteWithin m s → SiteWithin n s
+sums-widen l k = record { up = omega (arith, k .up); down = omega (arith, k .down); generation = omega (arith, k .generation) }
+
+-- What stands under a number adds to the sums of a site.
+abbrev pub addedSums : ℕ → Option Plant → SiteSums
+addedSums S o =
+    record {
+      up = addedAt S (plantMilligrams Up) o;
+      down = addedAt S (plantMilligrams Down) o;
+      generation = addedAt S (λ (p : PlainPlant). p .generation) o;
+    }
+
+-- The sums of a site over the plants that stand under the numbers from i, of n.
+abbrev pub sumsFrom : ℕ → (ℕ → Option Plant) → ℕ → ℕ → SiteSums
+sumsFrom S place n i = siteSums (siteOf (standing (plainAt place) i (n - i)) S)
+
+-- The sums of a site over the plants before number i: with those of the others they come to those of all. They are of at most i plants.
+pub record SiteSummed (S : ℕ) (place : ℕ → Option Plant) (n i : ℕ) (s : SiteSums) : Type 0 where
+  pub whole : sitePlus s (sumsFrom S place n i) ≡ sumsFrom S place n 0
+  pub within : SiteWithin i s
+
+module _ (S : ℕ) (place : ℕ → Option Plant) (n : ℕ) where
+  pub site-start : SiteSummed S place n 0 noPlants
+  site-start = record { whole = same-sums (omega arith) (omega arith) (omega arith); within = none-within 0 }
+
+  module _ (i : ℕ) where
+    sums-next : i < n → sumsFrom S place n i ≡ sitePlus (addedSums S (place i)) (sumsFrom S place n (i + 1))
+    unfolding siteOf
+    sums-next h =
+        let xs = standing (plainAt place) (i + 1) (n - (i + 1)) in
+        ap (λ (ys : List (Numbered PlainPlant)). siteSums (siteOf ys S)) (rest-next (plainAt place) n i h)
+        ∙ same-sums (site-adds S (plantMilligrams Up) i (place i) xs) (site-adds S (plantMilligrams Down) i (place i) xs) (site-adds S _ i (place i) xs)
+
+    module _ (s : SiteSums) (before : SiteSummed S place n i s) where
+      site-turn : i < n → (a : SiteSums) → addedSums S (place i) ≡ a → SiteWithin 1 a → SiteSummed S place n (i + 1) (sitePlus s a)
+      site-turn h a e w =
+          let k = before .within in
+          record {
+            whole = plus-assoc s a (sumsFrom S place n (i + 1)) ∙ ap (sitePlus s) (rw (← e) (sym (sums-next h))) ∙ before .whole;
+            within = record { up = omega (arith, k .up, w .up); down = omega (arith, k .down, w .down); generation = omega (arith, k .generation, w .generation) };
+          }
+
+      -- Where nothing is added, the sums stay as they are.
+      pub site-kept : i < n → addedSums S (place i) ≡ noPlants → SiteSummed S place n (i + 1) s
+      site-kept h e =
+          subst (SiteSummed S place n (i + 1)) (plus-none s)
+          (site-turn h noPlants e (none-within 1))
+
+      pub site-end : n ≤ i → s ≡ sumsFrom S place n 0
+      unfolding siteOf plantsAt selected sum
+      site-end h =
+          let none-left : sumsFrom S place n i ≡ noPlants = rw (rest-none (plainAt place) n i h) in
+          sym (plus-none s) ∙ ap (sitePlus s) (sym none-left) ∙ before .whole
+
+-- The sums of every site with one more plant: those of its site grow, the others stay as they are.
+abbrev pub sumsWith : List SiteSums → Plant → List SiteSums
+sumsWith sites p = set sites (p .site) (sitePlus (getD sites (p .site) noPlants) (plantSums (plainOf p)))
+
+pub sites-turn : (place : ℕ → Option Plant) (n i : ℕ) (sites : List SiteSums) (p : Plant) → i < n → place i ≡ some p → p .site < length sites
+    → SiteWithin 1 (plantSums (plainOf p)) → (S : ℕ) → SiteSummed S place n i (getD sites S noPlants)
+    → SiteSummed S place n (i + 1) (getD (sumsWith sites p) S noPlants)
+sites-turn place n i sites p h e l w S before = go (eqb (p .site) S) refl
+  where
+    go : (t : Bool) → eqb (p .site) S ≡ t → SiteSummed S place n (i + 1) (getD (sumsWith sites p) S noPlants)
+    go true q =
+        let grown = subst (λ (k : ℕ). sitePlus (getD sites k noPlants) (plantSums (plainOf p)) ≡ getD (sumsWith sites p) k noPlants) (eqb-true _ _ q)
+        (sym (getD-set-same sites (p .site) _ noPlants l)) in
+        subst (SiteSummed S place n (i + 1)) grown (site-turn S place n i (getD sites S noPlants) before h (plantSums (plainOf p)) (rw (e, q)) w)
+    go false q =
+        subst (SiteSummed S place n (i + 1)) (sym (getD-set-other sites (p .site) S _ noPlants (λ k. eqb-false _ _ q (sym k))))
+        (site-kept S place n i (getD sites S noPlants) before h (rw (e, q)))
 
 -- ---- consumption
 
-consumed : {a b : Consumption} → a .project ≡ b .project → a .baseline ≡ b .baseline → a .projects ≡ b .projects → a .baselines ≡ b .baselines
+pub consumed : {a b : Consumption} → a .project ≡ b .project → a .baseline ≡ b .baseline → a .projects ≡ b .projects → a .baselines ≡ b .baselines
     → a ≡ b
 consumed {a} {b} e f g h =
     ap (λ (t : ℕ). of t (a .baseline) (a .projects) (a .baselines)) e
@@ -168,6 +290,9 @@ consumed {a} {b} e f g h =
   where
     of : ℕ → ℕ → ℕ → ℕ → Consumption
     of p b ps bs = record { project = p; baseline = b; projects = ps; baselines = bs }
+
+abbrev noConsumption : Consumption
+noConsumption = record { project = 0; baseline = 0; projects = 0; baselines = 0 }
 
 -- What a source adds.
 source-adds : (counts : Supply → Bool) (x : Numbered Source) (xs : List (Numbered Source))
@@ -196,9 +321,8 @@ share-adds counts c i (some s) xs =
 abbrev pub onTo : (Supply → Bool) → Consumption → (ℕ → Option Source) → ℕ → ℕ → Consumption
 onTo counts c place n i = summed c (consumption counts (standing place i (n - i)))
 
-pub total-start : (counts : Supply → Bool) (side : Side) (place : ℕ → Option Source)
-    → onTo counts (share side 0 false) place 32 0 ≡ consumption counts (standing place 0 32)
-total-start counts side place = consumed (omega arith) (omega arith) (omega arith) (omega arith)
+pub total-start : (counts : Supply → Bool) (place : ℕ → Option Source) → onTo counts noConsumption place 32 0 ≡ consumption counts (standing place 0 32)
+total-start counts place = consumed (omega arith) (omega arith) (omega arith) (omega arith)
 
 pub total-turn : (counts : Supply → Bool) (c : Consumption) (place : ℕ → Option Source) (n i : ℕ) → i < n
     → onTo counts (withShare counts c (place i)) place n (i + 1) ≡ onTo counts c place n i
@@ -212,14 +336,16 @@ total-end counts c place n i h = rw (rest-none place n i h) (consumed (omega ari
 
 -- ---- the bounds of the sums
 
--- What an intact source has: a loss and an energy within their limits.
-pub source-fits : (s : Source) → sourceIntact (some s) ≡ true → (lossWithinLimits (s .loss) ≡ true) × (s .energy ≤ limit)
+-- What an intact source has: a supply, a loss and an energy within their limits.
+pub source-fits : (s : Source) → sourceIntact (some s) ≡ true
+    → (supplyWithinLimits (s .supply) ≡ true) × (lossWithinLimits (s .loss) ≡ true) × (s .energy ≤ limit)
 source-fits s h =
     let p = and-both (supplyWithinLimits (s .supply) && lossWithinLimits (s .loss) && lossMatches (s .supply) (s .loss)) _ h in
     let q = and-both (supplyWithinLimits (s .supply) && lossWithinLimits (s .loss)) _ (p .0) in
-    (and-both (supplyWithinLimits (s .supply)) _ (q .0) .1, leb-true _ _ (p .1))
+    let r = and-both (supplyWithinLimits (s .supply)) _ (q .0) in
+    (r .0, r .1, leb-true _ _ (p .1))
 
-pub share-within : (side : Side) (E : ℕ) (t : Bool) → E ≤ limit → ConsumptionWithin 1 (share side E t)
+share-within : (side : Side) (E : ℕ) (t : Bool) → E ≤ limit → ConsumptionWithin 1 (share side E t)
 share-within side E true h = go (direction side)
   where
     go : (d : Direction) → ConsumptionWithin 1 (ofDirection d E)
@@ -227,8 +353,8 @@ share-within side E true h = go (direction side)
     go Down = record { project = omega arith; baseline = omega arith; projects = omega arith; baselines = omega arith }
 share-within side E false h = record { project = omega arith; baseline = omega arith; projects = omega arith; baselines = omega arith }
 
-pub within-none : (side : Side) → ConsumptionWithin 0 (share side 0 false)
-within-none side = record { project = zero-le; baseline = zero-le; projects = zero-le; baselines = zero-le }
+pub within-none : ConsumptionWithin 0 noConsumption
+within-none = record { project = zero-le; baseline = zero-le; projects = zero-le; baselines = zero-le }
 
 pub within-more : {m n : ℕ} {c : Consumption} → m ≤ n → ConsumptionWithin m c → ConsumptionWithin n c
 within-more l s = record { project = omega arith; baseline = omega arith; projects = omega arith; baselines = omega arith }
@@ -237,7 +363,7 @@ pub within-next : (counts : Supply → Bool) (i : ℕ) (c : Consumption) (o : Op
     → ConsumptionWithin (i + 1) (withShare counts c o)
 within-next counts i c none h s = within-more (omega arith) s
 within-next counts i c (some a) h s =
-    let b = share-within (a .side) (a .energy) (counts (a .supply)) (source-fits a h .1) in
+    let b = share-within (a .side) (a .energy) (counts (a .supply)) (source-fits a h .2) in
     record {
       project = omega (arith, s .project, b .project);
       baseline = omega (arith, s .baseline, b .baseline);

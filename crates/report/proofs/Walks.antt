@@ -1,52 +1,58 @@
 -- The report's walk over the sources: the figure of a source, and what is left of the walk at each number. Assumes nothing.
-use Prim.Native.Nat.{ℕ, suc, _+_, _-_, _*_, _≤_, _<_}
+use Prim.Native.Nat.{ℕ, _+_, _-_, _*_, _≤_, _<_, zero-le}
 use mathlib.Core.Path.{_≡_, refl, sym, ap, subst, _∙_}
 use mathlib.Core.Bool.{true, _&&_}
 use mathlib.Core.List.{List, [], _∷_}
-use mathlib.Core.Option.{Option, none, some}
+use mathlib.Core.Option.{Option, none, some, Option·some-injective}
 use native.Mathlib.Nat.{mul-le-mul-right}
-use native.Mathlib.Numerals.{add-one}
 use native.Mathlib.Omega.{arith}
+use lib.ListN.{getD}
 use borrow.Author.Tests.{leb-true}
 use Rattle.rounding.specs.Divided.{sum}
+use Rattle.rounding.specs.Lists.{All}
 use Rattle.rounding.specs.declared.Direction.{Direction}
+use Rattle.rounding.specs.declared.Direction.the-variants.{Up, Down}
 use Rattle.rounding.proofs.Divided.{divided-at-most}
 use Rattle.rounding.proofs.Tests.{and-both}
 use Rattle.metering.specs.Reading.{limit}
 use Rattle.rounding.specs.Outcome.{Outcome, refused, given, andThen}
-use Rattle.emissions.specs.Factor.{direction, factorLimit, Chosen, chosen, factorIn}
+use Rattle.emissions.specs.Factor.{direction, factorLimit, siteNamed, captiveJudged, Site, atSite, Chosen, chosen, factorIn}
 use Rattle.emissions.specs.Loss.{lossOf}
 use Rattle.emissions.specs.Figure.{energyWithLosses, gramsOf, figureOf}
 use Rattle.emissions.specs.Figure as figure
 use Rattle.emissions.specs.declared.Consumption.{Consumption}
+use Rattle.emissions.specs.declared.FactorJudged.{FactorJudged}
 use Rattle.emissions.specs.declared.Grid.{Grid}
 use Rattle.emissions.specs.declared.Loss.{Loss}
 use Rattle.emissions.specs.declared.Loss.the-variants.{Nothing, Measured, Default20, Default3}
 use Rattle.emissions.specs.declared.Side.{Side}
-use Rattle.emissions.specs.declared.Supply.{Supply}
 use Rattle.emissions.specs.declared.Side.the-variants.{Project, Leakage, Baseline}
+use Rattle.emissions.specs.declared.Supply.{Supply}
+use Rattle.emissions.specs.declared.Supply.the-variants.{Combined, GridDefault, Captive, CaptiveDefault, Either}
 use Rattle.rounding.proofs.Outcomes.{never-given, given-is, then-given}
 use Rattle.emissions.specs.Grid.{gridIntact}
 use Rattle.emissions.proofs.Grids.{intact-sound}
-use Rattle.emissions.proofs.Supplies.{factor-limit, at-site-limit}
+use Rattle.emissions.proofs.Supplies.{chosen-same, factor-limit, at-site-limit}
 use Rattle.emissions.proofs.Losses.{LossSound, loss-limit}
 use Rattle.emissions.proofs.Figures.{energy-limit}
-use Rattle.report.specs.Report.{PlainPlant, ReportInput, Numbered, prependStanding, standing, selected, siteOf, captiveAt, plantsOf, intact, sourceFigure, Figured, Figures, declined, figured, withFigure, figuresFrom, ofSide, inputOfRecords}
-use Rattle.records.specs.Judging.{lossWithinLimits}
-use Rattle.report.specs.Intact.{plantIntact, allIntact, sourceIntact}
+use Rattle.report.specs.Report.{ReportInput, Numbered, prependStanding, standing, selected, siteOf, captiveAt, plantsIn, plantsOf, sourcesOf, intact, sourceFigure, Figured, Figures, declined, figured, withFigure, figuresFrom, ofSide, replyFrom, reportOf, inputOfRecords}
+use Rattle.records.specs.Judging.{lastSite, supplyWithinLimits, lossWithinLimits}
+use Rattle.report.specs.Intact.{plantIntact, allIntact, sourceIntact, sourcesIntact}
 use Rattle.records.specs.Records.{sourcePlace}
-use Rattle.report.specs.Steps.{sitePlants, totalsOf, factorAt, figureAt, parts, noSums, oneMore, withGrams, SideBounded, Bounded, sideSum, walkedOf}
+use Rattle.report.specs.Steps.{sitePlants, totalsOf, noPlants, siteSums, columnFor, rowFor, inTable, milligramsIn, TableOf, CaptiveWithin, figureAt, tableFigure, figuresBy, parts, noSums, oneMore, withGrams, SideBounded, Bounded, sideSum, walkedOf}
+use Rattle.records.specs.declared.Plant.{Plant}
 use Rattle.records.specs.declared.Source.{Source}
 use Rattle.records.specs.declared.PlantRecord.{PlantRecord}
 use Rattle.records.specs.declared.SourceRecord.{SourceRecord}
 use Rattle.report.specs.declared.Figure.{Figure}
 use Rattle.report.specs.declared.SideSum.{SideSum}
+use Rattle.report.specs.declared.SiteSums.{SiteSums}
 use Rattle.report.specs.declared.Sums.{Sums}
 use Rattle.report.specs.declared.Totals.{Totals}
 use Rattle.report.specs.declared.Walked.{Walked}
 use Rattle.report.specs.declared.Walked.the-variants as walked
-use Rattle.report.proofs.Lists.{numbered}
-use Rattle.report.proofs.Summing.{intact-at, source-fits}
+use Rattle.report.proofs.Lists.{numbered, never-some, standing-all}
+use Rattle.report.proofs.Summing.{intact-at, rest-next, source-fits}
 
 -- ---- the figure of a source
 
@@ -67,64 +73,89 @@ grams-limit dir E T F e t f =
     let U = energyWithLosses dir E T in
     divided-at-most dir (U * F) 1000000 1500000000000 (omega arith) (omega (arith, mul-le-mul-right F (energy-limit dir E T e t)))
 
--- A chosen factor is at most 10,000,000, whatever plants stand.
-pub plants-limit : (dir : Direction) (grid : Grid) (plants : List (Numbered PlainPlant)) (c : Consumption) (supply : Supply) (x : Chosen)
-    → gridIntact grid ≡ true → chosen dir grid (captiveAt dir plants) c supply ≡ given x → x .factor ≤ factorLimit
-plants-limit dir grid plants c supply x h e =
-    factor-limit dir grid (captiveAt dir plants) c (intact-sound grid h) (λ S F k. at-site-limit dir (siteOf plants S) F k) supply x e
+-- A supply within its limits names a site in range, if it names one.
+pub named-site : (supply : Supply) → supplyWithinLimits supply ≡ true → (S : ℕ) → siteNamed supply ≡ some S → S ≤ lastSite
+named-site Combined h S e = absurd (never-some e)
+named-site GridDefault h S e = absurd (never-some e)
+named-site (Captive N) h S e = subst (λ (n : ℕ). n ≤ lastSite) (Option·some-injective N S e) (leb-true N lastSite h)
+named-site CaptiveDefault h S e = absurd (never-some e)
+named-site (Either N) h S e = subst (λ (n : ℕ). n ≤ lastSite) (Option·some-injective N S e) (leb-true N lastSite h)
 
-pub given-limit : (dir : Direction) (grid : Grid) (plants : List (Numbered PlainPlant)) (c : Consumption) (supply : Supply) (F : ℕ)
-    → gridIntact grid ≡ true → factorAt dir grid plants c supply ≡ given F → F ≤ factorLimit
-given-limit dir grid plants c supply F h e =
-    let p = then-given (chosen dir grid (captiveAt dir plants) c supply) _ e in
-    subst (λ (n : ℕ). n ≤ factorLimit) (given-is (p .2)) (plants-limit dir grid plants c supply (p .0) h (p .1))
+-- So its row is in the table, and so is the column of every direction.
+pub row-limit : (supply : Supply) → supplyWithinLimits supply ≡ true → rowFor (siteNamed supply) ≤ lastSite
+row-limit supply h = go (siteNamed supply) (named-site supply h)
+  where
+    go : (o : Option ℕ) → ((S : ℕ) → o ≡ some S → S ≤ lastSite) → rowFor o ≤ lastSite
+    go none k = zero-le
+    go (some S) k = k S refl
 
-module _ (grid : Grid) (plants : List (Numbered PlainPlant)) (t : Totals) (s : Source) where
+pub column-limit : (dir : Direction) → columnFor dir ≤ 1
+column-limit Up = zero-le
+column-limit Down = omega arith
+
+-- The figure by two ways to judge sites is the same where they agree on the site that the source names.
+pub figure-same : (grid : Grid) (captiveAt other : ℕ → Outcome ℕ) (t : Totals) (s : Source)
+    → ((S : ℕ) → siteNamed (s .supply) ≡ some S → captiveAt S ≡ other S) → figureAt grid captiveAt t s ≡ figureAt grid other t s
+figure-same grid captiveAt other t s h = rw (chosen-same (direction (s .side)) grid (t .factor) captiveAt other (s .supply) h)
+
+module _ (grid : Grid) (captiveAt : ℕ → Outcome ℕ) (t : Totals) (s : Source) where
+  abbrev factorBy : Direction → Outcome ℕ
+  factorBy dir = factorIn (chosen dir grid captiveAt (t .factor) (s .supply))
+
   -- The figure with the roundings of any direction.
-  abbrev figureBy : Direction → Outcome figure.Figure
-  figureBy dir =
-      andThen (chosen dir grid (captiveAt dir plants) (t .factor) (s .supply)) (λ x.
+  abbrev figureIn : Direction → Outcome figure.Figure
+  figureIn dir =
+      andThen (chosen dir grid captiveAt (t .factor) (s .supply)) (λ x.
       andThen (lossOf dir (t .loss) (s .loss)) (λ T.
       given (figureOf dir (s .energy) (x .choice) T (x .factor))))
 
   module _ (dir : Direction) (d : dir ≡ direction (s .side)) where
-    pub no-factor : (n : ℕ) → factorAt dir grid plants (t .factor) (s .supply) ≡ refused n → refused n ≡ parts (figureAt grid plants t s)
-    no-factor n e = go (chosen dir grid (captiveAt dir plants) (t .factor) (s .supply)) _ e ∙ ap (λ (k : Direction). parts (figureBy k)) d
+    pub no-factor : (n : ℕ) → factorBy dir ≡ refused n → refused n ≡ parts (figureAt grid captiveAt t s)
+    no-factor n e = go (chosen dir grid captiveAt (t .factor) (s .supply)) _ e ∙ ap (λ (k : Direction). parts (figureIn k)) d
       where
         go : (o : Outcome Chosen) (f : Chosen → Outcome figure.Figure) → factorIn o ≡ refused n → refused n ≡ parts (andThen o f)
         go (refused m) f e = cc
         go (given x) f e = absurd (never-given (sym e))
 
-    module _ (F : ℕ) (f : factorAt dir grid plants (t .factor) (s .supply) ≡ given F) where
-      pub no-loss : (n : ℕ) → lossOf dir (t .loss) (s .loss) ≡ refused n → refused n ≡ parts (figureAt grid plants t s)
+    module _ (F : ℕ) (f : factorBy dir ≡ given F) where
+      pub no-loss : (n : ℕ) → lossOf dir (t .loss) (s .loss) ≡ refused n → refused n ≡ parts (figureAt grid captiveAt t s)
       no-loss n e =
-          let p = then-given (chosen dir grid (captiveAt dir plants) (t .factor) (s .supply)) _ f in
+          let p = then-given (chosen dir grid captiveAt (t .factor) (s .supply)) _ f in
           rw (← d) (simp (p .1, e))
 
       pub both-parts : (T U g : ℕ) → lossOf dir (t .loss) (s .loss) ≡ given T → U ≡ energyWithLosses dir (s .energy) T
           → g ≡ gramsOf dir (energyWithLosses dir (s .energy) T) F
-          → given (record { factor = F; energy = U; grams = g }) ≡ parts (figureAt grid plants t s)
+          → given (record { factor = F; energy = U; grams = g }) ≡ parts (figureAt grid captiveAt t s)
       unfolding figureOf
       both-parts T U g e u h =
-          let p = then-given (chosen dir grid (captiveAt dir plants) (t .factor) (s .supply)) _ f in
+          let p = then-given (chosen dir grid captiveAt (t .factor) (s .supply)) _ f in
           go (p .0) (p .1) (given-is (p .2))
         where
-          go : (x : Chosen) → chosen dir grid (captiveAt dir plants) (t .factor) (s .supply) ≡ given x → x .factor ≡ F
-              → given (record { factor = F; energy = U; grams = g }) ≡ parts (figureAt grid plants t s)
+          go : (x : Chosen) → chosen dir grid captiveAt (t .factor) (s .supply) ≡ given x → x .factor ≡ F
+              → given (record { factor = F; energy = U; grams = g }) ≡ parts (figureAt grid captiveAt t s)
           go x k l = rw (← d) (simp (u, h, k, e, l))
 
-  -- The figure of an intact source at an intact grid is at most 1,500,000,000,000 grams, whatever plants stand.
-  pub figure-limit : gridIntact grid ≡ true → sourceIntact (some s) ≡ true → (f : figure.Figure) → figureAt grid plants t s ≡ given f
-      → f .grams ≤ 1500000000000
-  unfolding figureOf
-  figure-limit hg hs f e =
-      let dir = direction (s .side) in
-      let p = then-given (chosen dir grid (captiveAt dir plants) (t .factor) (s .supply)) _ e in
-      let q = then-given (lossOf dir (t .loss) (s .loss)) _ (p .2) in
-      let fits = source-fits s hs in
-      subst (λ (g : figure.Figure). g .grams ≤ 1500000000000) (given-is (q .2))
-      (grams-limit dir (s .energy) (q .0) (p .0 .factor) (fits .1) (open-limit dir (t .loss) (s .loss) (q .0) (fits .0) (q .1))
-      (plants-limit dir grid plants (t .factor) (s .supply) (p .0) hg (p .1)))
+  -- Where the grid is intact and each captive factor is within its limit, so is the factor of every supply,
+  module _ (hg : gridIntact grid ≡ true) (within : (S : ℕ) → CaptiveWithin (captiveAt S)) where
+    chosen-limit : (dir : Direction) (x : Chosen) → chosen dir grid captiveAt (t .factor) (s .supply) ≡ given x → x .factor ≤ factorLimit
+    chosen-limit dir x e = factor-limit dir grid captiveAt (t .factor) (intact-sound grid hg) within (s .supply) x e
+
+    pub given-limit : (dir : Direction) (F : ℕ) → factorBy dir ≡ given F → F ≤ factorLimit
+    given-limit dir F e =
+        let p = then-given (chosen dir grid captiveAt (t .factor) (s .supply)) _ e in
+        subst (λ (n : ℕ). n ≤ factorLimit) (given-is (p .2)) (chosen-limit dir (p .0) (p .1))
+
+    -- and the figure of an intact source is at most 1,500,000,000,000 grams.
+    pub figure-limit : sourceIntact (some s) ≡ true → (f : figure.Figure) → figureAt grid captiveAt t s ≡ given f → f .grams ≤ 1500000000000
+    unfolding figureOf
+    figure-limit hs f e =
+        let dir = direction (s .side) in
+        let p = then-given (chosen dir grid captiveAt (t .factor) (s .supply)) _ e in
+        let q = then-given (lossOf dir (t .loss) (s .loss)) _ (p .2) in
+        let fits = source-fits s hs in
+        subst (λ (g : figure.Figure). g .grams ≤ 1500000000000) (given-is (q .2))
+        (grams-limit dir (s .energy) (q .0) (p .0 .factor) (fits .2) (open-limit dir (t .loss) (s .loss) (q .0) (fits .1) (q .1))
+        (chosen-limit dir (p .0) (p .1)))
 
 -- ---- the sums
 
@@ -189,43 +220,82 @@ module _ (acc : Sums) (x : Numbered Source) where
   with-refused (refused m) n r e = cc
   with-refused (given h) n r e = absurd (never-given (sym e))
 
--- ---- what is left of the walk at a number
+-- ---- what is left of the walk at a number, whatever gives the figure of each source
 
-abbrev pub left : ReportInput → ℕ → Figures
-left b i = figuresFrom b (standing (b .source) i (32 - i))
+module _ (figureOf : Source → Outcome figure.Figure) (place : ℕ → Option Source) where
+  abbrev pub left : ℕ → Figures
+  left i = figuresBy figureOf (standing place i (32 - i))
 
-left-next : (b : ReportInput) (i : ℕ) → i < 32
-    → left b i ≡ figuresFrom b (prependStanding i (b .source i) (standing (b .source) (i + 1) (32 - (i + 1))))
-unfolding standing
-left-next b i h =
-    let e : 32 - i ≡ suc (32 - (i + 1)) = omega arith in
-    rw (e, add-one)
+  pub left-none : left 32 ≡ figured []
+  unfolding standing figuresBy
+  left-none = refl
 
-pub left-none : (b : ReportInput) → left b 32 ≡ figured []
-unfolding standing figuresFrom
-left-none b = refl
+  module _ (acc : Sums) (i : ℕ) (h : i < 32) where
+    pub skips : place i ≡ none → resumed acc (left i) ≡ resumed acc (left (i + 1))
+    skips e =
+        ap (resumed acc) (ap (figuresBy figureOf)
+        (rest-next place 32 i h ∙ ap (λ (o : Option Source). prependStanding i o (standing place (i + 1) (32 - (i + 1)))) e))
 
-module _ (b : ReportInput) (acc : Sums) (i : ℕ) (h : i < 32) where
-  pub skips : b .source i ≡ none → resumed acc (left b i) ≡ resumed acc (left b (i + 1))
-  skips e = ap (resumed acc) (left-next b i h ∙ ap (λ (o : Option Source). figuresFrom b (prependStanding i o (standing (b .source) (i + 1) (32 - (i + 1))))) e)
+    module _ (s : Source) (e : place i ≡ some s) where
+      left-some : left i ≡ withFigure (numbered i s) (figureOf s) (left (i + 1))
+      unfolding figuresBy
+      left-some = ap (figuresBy figureOf) (rest-next place 32 i h) ∙ rw e
 
-  module _ (s : Source) (e : b .source i ≡ some s) where
-    left-some : left b i ≡ withFigure (numbered i s) (sourceFigure b s) (left b (i + 1))
-    unfolding figuresFrom
-    left-some = left-next b i h ∙ rw e
+      pub goes-on : (f : Figure) → parts (figureOf s) ≡ given f → resumed acc (left i) ≡ resumed (withGrams acc (s .side) (f .grams)) (left (i + 1))
+      goes-on f k = ap (resumed acc) left-some ∙ with-given acc (numbered i s) (figureOf s) f _ k
 
-    pub goes-on : (f : Figure) → parts (sourceFigure b s) ≡ given f
-        → resumed acc (left b i) ≡ resumed (withGrams acc (s .side) (f .grams)) (left b (i + 1))
-    goes-on f k = ap (resumed acc) left-some ∙ with-given acc (numbered i s) (sourceFigure b s) f _ k
+      pub stops : (n : ℕ) → parts (figureOf s) ≡ refused n → resumed acc (left i) ≡ walked.Refused n i
+      stops n k = ap (resumed acc) left-some ∙ with-refused acc (numbered i s) (figureOf s) n _ k
 
-    pub stops : (n : ℕ) → parts (sourceFigure b s) ≡ refused n → resumed acc (left b i) ≡ walked.Refused n i
-    stops n k = ap (resumed acc) left-some ∙ with-refused acc (numbered i s) (sourceFigure b s) n _ k
+-- ---- the figures of the report
 
--- The figure that the walk asks for.
-pub figure-is : (grid : Grid) (plants : List PlantRecord) (sources : List SourceRecord) (t : Totals) (s : Source) → t ≡ totalsOf (sourcePlace sources)
-    → sourceFigure (inputOfRecords grid plants sources) s ≡ figureAt grid (sitePlants plants) t s
+figures-agree : (f g : Source → Outcome figure.Figure) (xs : List (Numbered Source)) → All (λ (x : Numbered Source). f (x .item) ≡ g (x .item)) xs
+    → figuresBy f xs ≡ figuresBy g xs
+unfolding figuresBy
+figures-agree f g [] h = refl
+figures-agree f g (x ∷ xs) h = rw (h .0, figures-agree f g xs (h .1))
+
+figures-by : (b : ReportInput) (xs : List (Numbered Source)) → figuresFrom b xs ≡ figuresBy (sourceFigure b) xs
+unfolding figuresFrom figuresBy
+figures-by b [] = refl
+figures-by b (x ∷ xs) = rw (figures-by b xs)
+
+-- The table of the sums of the sites has what the rules give for each site.
+pub table-is : (site : ℕ → Site) (sites : List SiteSums) (factors : List (List FactorJudged))
+    → ((S : ℕ) → S ≤ lastSite → getD sites S noPlants ≡ siteSums (site S)) → TableOf sites factors
+    → (dir : Direction) (S : ℕ) → S ≤ lastSite → inTable factors dir S ≡ atSite dir (site S)
+table-is site sites factors h t dir S l = t S l dir ∙ ap (λ (s : SiteSums). captiveJudged dir (milligramsIn dir s) (s .generation)) (h S l) ∙ go dir
+  where
+    go : (k : Direction) → captiveJudged k (milligramsIn k (siteSums (site S))) (site S .generation) ≡ atSite k (site S)
+    go Up = refl
+    go Down = refl
+
+-- Figures by a table are those of the report, where the table has what the rules give for each site and the totals are those of the sources.
+pub report-figures : (grid : Grid) (plants : List PlantRecord) (sources : List SourceRecord) (factors : List (List FactorJudged))
+    → ((dir : Direction) (S : ℕ) → S ≤ lastSite → inTable factors dir S ≡ captiveAt dir (sitePlants plants) S) → sourcesIntact sources ≡ true
+    → let b = inputOfRecords grid plants sources in
+    figuresBy (tableFigure grid factors (totalsOf (sourcePlace sources))) (standing (sourcePlace sources) 0 32) ≡ figuresFrom b (sourcesOf b)
 unfolding sourceFigure
-figure-is grid plants sources t s e = rw e
+report-figures grid plants sources factors table h =
+    figures-agree _ _ (standing (sourcePlace sources) 0 32) (standing-all (sourcePlace sources) _ 0 32 (λ n s e l u.
+    let w = subst (λ (o : Option Source). sourceIntact o ≡ true) e (intact-at sourceIntact (sourcePlace sources) 32 n h u) in
+    figure-same grid _ _ _ s (λ S q. table (direction (s .side)) S (named-site (s .supply) (source-fits s w .0) S q))))
+    ∙ sym (figures-by (inputOfRecords grid plants sources) _)
+
+-- A site shows in a report only by the sources that name it: with other plants, the report is the same where the sites that sources name are
+-- judged the same.
+pub unnamed-never-shows : (b : ReportInput) (plant : ℕ → Option Plant)
+    → ((n : ℕ) (s : Source) → b .source n ≡ some s → (S : ℕ) → siteNamed (s .supply) ≡ some S → (dir : Direction)
+    → captiveAt dir (plantsOf b) S ≡ captiveAt dir (plantsIn plant) S)
+    → reportOf b ≡ reportOf (record { grid = b .grid; plant = plant; source = b .source })
+unfolding reportOf sourceFigure
+unnamed-never-shows b plant h =
+    let other : ReportInput = record { grid = b .grid; plant = plant; source = b .source } in
+    ap replyFrom (
+    figures-by b (sourcesOf b)
+    ∙ figures-agree (sourceFigure b) (sourceFigure other) (sourcesOf b) (standing-all (b .source) _ 0 32 (λ n s e l u.
+    figure-same (b .grid) _ _ (totalsOf (b .source)) s (λ S q. h n s e S q (direction (s .side)))))
+    ∙ sym (figures-by other (sourcesOf b)))
 
 -- The figure of a source of an intact ledger is at most 1,500,000,000,000 grams.
 pub intact-figure-limit : (b : ReportInput) → intact b ≡ true → (n : ℕ) (s : Source) (f : figure.Figure) → n < 32 → b .source n ≡ some s
@@ -234,8 +304,8 @@ unfolding intact sourceFigure
 intact-figure-limit b h n s f l at e =
     let p = and-both (gridIntact (b .grid) && allIntact plantIntact (b .plant) 8) _ h in
     let q = and-both (gridIntact (b .grid)) _ (p .0) in
-    let t : Totals = totalsOf (b .source) in
-    figure-limit (b .grid) (plantsOf b) t s (q .0)
+    let dir = direction (s .side) in
+    figure-limit (b .grid) (captiveAt dir (plantsOf b)) (totalsOf (b .source)) s (q .0) (λ S F k. at-site-limit dir (siteOf (plantsOf b) S) F k)
     (subst (λ (o : Option Source). sourceIntact o ≡ true) at (intact-at sourceIntact (b .source) 32 n (p .1) l)) f e
 
 -- ---- limits

@@ -1,32 +1,43 @@
 -- What the steps inside the report answer. Only contracts of private functions cite these; the rules are in `Report`.
 use Prim.Native.Nat.{ℕ, _+_, _*_, _≤_}
+use mathlib.Core.Path.{_≡_}
 use mathlib.Core.Bool.{Bool, true, false, cond}
-use mathlib.Core.List.{List, map}
+use mathlib.Core.List.{List, [], _∷_, map}
 use mathlib.Core.Option.{Option, none, some}
-use lib.Dec.{eqb}
-use lib.ListN.{length}
+use lib.ListN.{length, getD}
 use Rattle.rounding.specs.Divided.{divided, sum}
 use lib.IntN.{ℤ}
 use Rattle.rounding.specs.declared.Direction.{Direction}
 use Rattle.rounding.specs.declared.Direction.the-variants.{Up, Down}
 use Rattle.rounding.specs.Outcome.{Outcome, refused, given, andThen}
-use Rattle.emissions.specs.Factor.{direction, chosen, factorIn}
+use Rattle.emissions.specs.Answers.{factorMeaning}
+use Rattle.emissions.specs.Factor.{direction, factorLimit, captiveJudged, Site, chosen}
 use Rattle.emissions.specs.Loss.{lossOf}
 use Rattle.emissions.specs.Figure as figure
 use Rattle.emissions.specs.Figure.{energyLimit}
 use Rattle.emissions.specs.declared.Consumption.{Consumption}
+use Rattle.emissions.specs.declared.FactorJudged.{FactorJudged}
+use Rattle.emissions.specs.declared.FactorJudged.the-variants as factorJudged
 use Rattle.emissions.specs.declared.Grid.{Grid}
 use Rattle.emissions.specs.declared.Side.{Side}
 use Rattle.emissions.specs.declared.Side.the-variants.{Project, Leakage, Baseline}
 use Rattle.emissions.specs.declared.Supply.{Supply}
-use Rattle.report.specs.Report.{Numbered, standing, plantsIn, consumption, comparesFactor, comparesLoss, plantMilligrams, captiveAt, Figured, Figures, declined, figured, gramsIn, ofSide, allFit, Reply, refusedWith, reported, PlainPlant, plainOf}
-use Rattle.report.specs.Report as report
-use Rattle.records.specs.Records.{plantPlace}
+use Rattle.records.specs.Judging.{lastSource, lastSite, generationLimit}
+use Rattle.records.specs.Records.{plantPlace, sourcePlace}
 use Rattle.records.specs.declared.Plant.{Plant}
 use Rattle.records.specs.declared.Source.{Source}
 use Rattle.records.specs.declared.PlantRecord.{PlantRecord}
+use Rattle.records.specs.declared.SourceRecord.{SourceRecord}
+use Rattle.report.specs.Intact.{plantIntact, sourcesIntact}
+use Rattle.report.specs.Report.{Numbered, standing, plantsIn, consumption, comparesFactor, comparesLoss, plantMilligrams, siteOf, Figured, Figures, declined, figured, withFigure, gramsIn, ofSide, allFit, Reply, refusedWith, reported, PlainPlant, plainOf}
+use Rattle.report.specs.Report as report
 use Rattle.report.specs.declared.Totals.{Totals}
+use Rattle.report.specs.declared.TotalsSummed.{TotalsSummed}
+use Rattle.report.specs.declared.TotalsSummed.the-variants as totalsCase
 use Rattle.report.specs.declared.SiteSums.{SiteSums}
+use Rattle.report.specs.declared.PlantSummed.{PlantSummed}
+use Rattle.report.specs.declared.PlantSummed.the-variants as plantCase
+use Rattle.report.specs.declared.SitesSummed.{SitesSummed}
 use Rattle.report.specs.declared.FigureJudged.{FigureJudged}
 use Rattle.report.specs.declared.FigureJudged.the-variants as figureJudged
 use Rattle.report.specs.declared.Figure.{Figure}
@@ -91,28 +102,94 @@ totalsWith t o = record { factor = withShare comparesFactor (t .factor) o; loss 
 abbrev pub totalsOf : (ℕ → Option Source) → Totals
 totalsOf place = record { factor = consumption comparesFactor (standing place 0 32); loss = consumption comparesLoss (standing place 0 32) }
 
--- What stands under a number adds so much to a sum over the plants at a site.
-abbrev pub generated : PlainPlant → ℕ
-generated p = p .generation
+-- The totals, where all sources are intact.
+abbrev pub totalsSummed : List SourceRecord → TotalsSummed
+totalsSummed sources = cond (sourcesIntact sources) (totalsCase.Summed (totalsOf (sourcePlace sources))) totalsCase.Damaged
 
-abbrev pub addedAt : ℕ → (PlainPlant → ℕ) → Option Plant → ℕ
-addedAt S f none = 0
-addedAt S f (some p) = cond (eqb (p .site) S) (f (plainOf p)) 0
+-- ---- the sums of a site
 
--- A site's sums with what stands under one more number.
-abbrev pub siteWith : ℕ → Direction → SiteSums → Option Plant → SiteSums
-siteWith S dir s o = record { milligrams = s .milligrams + addedAt S (plantMilligrams dir) o; generation = s .generation + addedAt S generated o }
+-- What a plant adds at its site, and what the report sums up of it, where it is intact.
+abbrev pub plantSums : PlainPlant → SiteSums
+plantSums p = record { up = plantMilligrams Up p; down = plantMilligrams Down p; generation = p .generation }
 
--- The factor of a supply: that of the option chosen for it.
-abbrev pub factorAt : Direction → Grid → List (Numbered PlainPlant) → Consumption → Supply → Outcome ℕ
-factorAt dir grid plants c supply = factorIn (chosen dir grid (captiveAt dir plants) c supply)
+abbrev pub plantSummed : Plant → PlantSummed
+plantSummed p = cond (plantIntact (some p)) (plantCase.Summed (plantSums (plainOf p))) plantCase.Damaged
 
--- The figure of a source by the totals.
-abbrev pub figureAt : Grid → List (Numbered PlainPlant) → Totals → Source → Outcome figure.Figure
-figureAt grid plants t s =
-    andThen (chosen (direction (s .side)) grid (captiveAt (direction (s .side)) plants) (t .factor) (s .supply)) (λ x.
+abbrev pub noPlants : SiteSums
+noPlants = record { up = 0; down = 0; generation = 0 }
+
+abbrev pub sitePlus : SiteSums → SiteSums → SiteSums
+sitePlus a b = record { up = a .up + b .up; down = a .down + b .down; generation = a .generation + b .generation }
+
+-- The sums of at most n plants within their limits.
+pub record SiteWithin (n : ℕ) (s : SiteSums) : Type 0 where
+  pub up : s .up ≤ n * plantBound
+  pub down : s .down ≤ n * plantBound
+  pub generation : s .generation ≤ n * generationLimit
+
+abbrev pub PlantWithin : PlantSummed → Type 0
+PlantWithin plantCase.Damaged = Unit {0}
+PlantWithin (plantCase.Summed s) = SiteWithin 1 s
+
+-- The sums of a site, and those of all sites where all plants are intact.
+abbrev pub siteSums : Site → SiteSums
+siteSums s = record { up = s .milligrams Up; down = s .milligrams Down; generation = s .generation }
+
+abbrev pub SitesOf : List PlantRecord → SitesSummed → Type 0
+SitesOf plants r = r .intact ≡ true → (S : ℕ) → S ≤ lastSite → getD (r .sites) S noPlants ≡ siteSums (siteOf (sitePlants plants) S)
+
+-- ---- the table of site factors, a row for each site, a column for each direction
+
+abbrev pub columnFor : Direction → ℕ
+columnFor Up = 0
+columnFor Down = 1
+
+abbrev pub rowFor : Option ℕ → ℕ
+rowFor none = 0
+rowFor (some S) = S
+
+-- The factor of a row in a direction, or its refusal; so with a table, at a site.
+abbrev pub inRow : List FactorJudged → Direction → Outcome ℕ
+inRow row dir = factorMeaning (getD row (columnFor dir) (factorJudged.Refused 0))
+
+abbrev pub inTable : List (List FactorJudged) → Direction → ℕ → Outcome ℕ
+inTable factors dir S = inRow (getD factors S []) dir
+
+-- What the row of a site's sums has, and the table of all sites'.
+abbrev pub milligramsIn : Direction → SiteSums → ℕ
+milligramsIn Up s = s .up
+milligramsIn Down s = s .down
+
+abbrev pub RowOf : SiteSums → List FactorJudged → Type 0
+RowOf s row = (dir : Direction) → inRow row dir ≡ captiveJudged dir (milligramsIn dir s) (s .generation)
+
+abbrev pub TableOf : List SiteSums → List (List FactorJudged) → Type 0
+TableOf sites factors = (S : ℕ) → S ≤ lastSite → RowOf (getD sites S noPlants) (getD factors S [])
+
+-- Every factor that is given is at most 10,000,000.
+abbrev pub CaptiveWithin : Outcome ℕ → Type 0
+CaptiveWithin o = (F : ℕ) → o ≡ given F → F ≤ factorLimit
+
+abbrev pub TableWithin : List (List FactorJudged) → Type 0
+TableWithin factors = (dir : Direction) (S : ℕ) → CaptiveWithin (inTable factors dir S)
+
+-- ---- the figure of a source
+
+-- By the totals and by what is judged of each site in the source's direction.
+abbrev pub figureAt : Grid → (ℕ → Outcome ℕ) → Totals → Source → Outcome figure.Figure
+figureAt grid captiveAt t s =
+    andThen (chosen (direction (s .side)) grid captiveAt (t .factor) (s .supply)) (λ x.
     andThen (lossOf (direction (s .side)) (t .loss) (s .loss)) (λ T.
     given (figure.figureOf (direction (s .side)) (s .energy) (x .choice) T (x .factor))))
+
+-- By a table, whatever it was made of.
+abbrev pub tableFigure : Grid → List (List FactorJudged) → Totals → Source → Outcome figure.Figure
+tableFigure grid factors t s = figureAt grid (inTable factors (direction (s .side))) t s
+
+-- The figures of a list of sources, where `figureOf` gives that of each.
+unfoldable pub figuresBy : (Source → Outcome figure.Figure) → List (Numbered Source) → Figures
+figuresBy figureOf [] = figured []
+figuresBy figureOf (x ∷ xs) = withFigure x (figureOf (x .item)) (figuresBy figureOf xs)
 
 -- What the code hands up of a figure: F, U and the grams.
 abbrev pub codeFigure : figure.Figure → Figure
@@ -169,6 +246,10 @@ sideSum side fs = record { grams = sum (map gramsIn (ofSide side fs)); sources =
 abbrev pub walkedOf : Figures → Walked
 walkedOf (declined n k) = walked.Refused n k
 walkedOf (figured fs) = walked.Summed (record { project = sideSum Project fs; leakage = sideSum Leakage fs; baseline = sideSum Baseline fs })
+
+abbrev pub WalkedWithin : Walked → Type 0
+WalkedWithin (walked.Refused n k) = Unit {0}
+WalkedWithin (walked.Summed s) = Bounded (lastSource + 1) s
 
 -- ---- the answer
 

@@ -1,31 +1,67 @@
-// The report on what stands (document 01, "Losses and factors" and "Report"). Each private function is
-// given records that meet the limits of accepted entries: `report_of` looks first.
+// The report on what stands (document 01, "Losses and factors" and "Report"). The sources are summed up, then the
+// plants, and whether each is such as an entry leaves is looked at in the same pass. So the table of site factors
+// (document 02, wish 3) and the walk over the sources are given what meets the limits of accepted entries.
 
 ghost use mathlib.Core.Path.{_≡_};
-ghost use mathlib.Core.Bool.{true};
-ghost use Prim.Native.Nat.{_+_, _*_, _≤_, _<_};
-ghost use Rattle.emissions.specs.Answers.{factorMeaning};
-ghost use Rattle.emissions.specs.Factor.{direction, siteNamed};
-ghost use Rattle.emissions.specs.Steps.{atNamed};
-ghost use Rattle.report.specs.Report.{comparesFactor, comparesLoss, plantMilligrams, siteOf, captiveAt, figuresFrom, sourcesOf, reportOf, checkedReportOf, inputOfRecords, plainOf};
-ghost use Rattle.records.specs.Judging.{lastPlant, lastSource, generationLimit};
-ghost use Rattle.records.specs.Records.{plantIn, sourceIn, sourcePlace};
-ghost use Rattle.emissions.specs.Grid.{gridIntact};
-ghost use Rattle.report.specs.Intact.{plantIntact, sourceIntact, plantsIntact, sourcesIntact};
+ghost use mathlib.Core.Bool.{true, _&&_};
 ghost use mathlib.Core.Option.{some};
+ghost use Prim.Native.Nat.{_+_, _≤_};
+ghost use Rattle.emissions.specs.Answers.{factorMeaning};
+ghost use Rattle.emissions.specs.Factor.{siteNamed};
+ghost use Rattle.emissions.specs.Figure.{energyLimit};
+ghost use Rattle.emissions.specs.Grid.{gridIntact};
+ghost use Rattle.records.specs.Judging.{lastPlant, lastSource, supplyWithinLimits, lossMatches};
+ghost use Rattle.records.specs.Records.{sourcePlace};
+ghost use Rattle.report.specs.Report.{standing, comparesFactor, comparesLoss, checkedReportOf, inputOfRecords};
+ghost use Rattle.report.specs.Intact.{sourceIntact, plantsIntact, sourcesIntact};
 ghost use Rattle.report.specs.Answers.{sideMeaning, reportMeaning};
-ghost use Rattle.report.specs.Steps.{sitePlants, share, summed, ConsumptionWithin, totalsWith, totalsOf, siteWith, figureAt, parts, figureMeaning, FigureWithin, figureRefusal, noSums, withGrams, Bounded, walkedOf, sideFrom, reductionOf, reportedOf, plantBound, figureBound, tonnesBound, SideBounded};
+ghost use Rattle.report.specs.Steps.{
+  figureBound,
+  tonnesBound,
+  share,
+  summed,
+  ConsumptionWithin,
+  totalsWith,
+  totalsSummed,
+  noPlants,
+  sitePlus,
+  SiteWithin,
+  plantSummed,
+  PlantWithin,
+  SitesOf,
+  columnFor,
+  rowFor,
+  RowOf,
+  TableOf,
+  TableWithin,
+  CaptiveWithin,
+  figureAt,
+  tableFigure,
+  figuresBy,
+  parts,
+  figureMeaning,
+  FigureWithin,
+  figureRefusal,
+  noSums,
+  withGrams,
+  SideBounded,
+  Bounded,
+  walkedOf,
+  WalkedWithin,
+  sideFrom,
+  reductionOf,
+  reportedOf,
+};
 use emissions::Consumption;
 use emissions::EmissionsJudged;
 use emissions::FactorJudged;
 use emissions::Grid;
+use emissions::Loss;
 use emissions::LossJudged;
 use emissions::Side;
-use emissions::SiteNamed;
 use emissions::Supply;
 use fuel::Milligrams;
 use metering::Reading;
-use records::Answer;
 use records::Plant;
 use records::PlantRecord;
 use records::Source;
@@ -38,10 +74,30 @@ struct Totals {
     loss: Consumption,
 }
 
-// The milligrams and the generation, in kWh, of plants at a site.
+// The totals of the sources that stand, or that one of them is not such as an entry leaves.
+enum TotalsSummed {
+    Damaged,
+    Summed(Totals),
+}
+
+// The milligrams of plants, rounded up and down, and their generation in kWh.
 struct SiteSums {
-    milligrams: u64,
+    up: u64,
+    down: u64,
     generation: u64,
+}
+
+// What a plant adds at its site, or that it is not such as an entry leaves.
+enum PlantSummed {
+    Damaged,
+    Summed(SiteSums),
+}
+
+// Whether all plants that stand are such as entries leave, and then the sums of each site. An enum cannot hold
+// the array.
+struct SitesSummed {
+    intact: bool,
+    sites: [SiteSums; Plant::SITE_PLACES],
 }
 
 // The figure of a source: its emission factor F, its energy with losses U and its grams.
@@ -69,10 +125,10 @@ impl FigureJudged {
     }
 }
 
-// A side's grams and the number of its standing sources.
+// A side's grams and the number of its standing sources, which has 64 bits so that no byte is padding.
 struct SideSum {
     grams: u64,
-    sources: u8,
+    sources: u64,
 }
 
 struct Sums {
@@ -135,185 +191,251 @@ fn compares_loss(supply: Supply) -> bool
     }
 }
 
-// What a source adds to the consumption of those that count.
-fn share_of(side: Side, energy: u64, counts: bool) -> Consumption
-    ensures { λ r. ⌜ r ≡ share side energy counts ⌝ }
+// The consumption with a source, where it counts.
+fn with_share(sums: Consumption, side: Side, energy: u64, counts: bool) -> Consumption
+    requires { ⌜ ConsumptionWithin lastSource sums × (energy ≤ energyLimit) ⌝ }
+    ensures { λ r. ⌜ r ≡ summed sums (share side energy counts) ⌝ }
 {
     if counts {
         let direction = side.direction();
         return match direction {
             Direction::Up => Consumption {
-                project: energy,
-                baseline: 0,
-                projects: 1,
-                baselines: 0,
+                project: sums.project + energy,
+                baseline: sums.baseline,
+                projects: sums.projects + 1,
+                baselines: sums.baselines,
             },
             Direction::Down => Consumption {
-                project: 0,
-                baseline: energy,
-                projects: 0,
-                baselines: 1,
+                project: sums.project,
+                baseline: sums.baseline + energy,
+                projects: sums.projects,
+                baselines: sums.baselines + 1,
             },
         };
     }
-    Consumption {
+    sums
+}
+
+// The totals with one more source.
+fn with_source(totals: Totals, source: Source) -> Totals
+    requires { ⌜ ConsumptionWithin lastSource (totals .factor) × ConsumptionWithin lastSource (totals .loss) × (source .energy ≤ energyLimit) ⌝ }
+    ensures { λ r. ⌜ r ≡ totalsWith totals (some source) ⌝ }
+{
+    let supply = source.supply;
+    let side = source.side;
+    Totals {
+        factor: with_share(totals.factor, side, source.energy, compares_factor(supply)),
+        loss: with_share(totals.loss, side, source.energy, compares_loss(supply)),
+    }
+}
+
+// Whether the site that a supply names, if it names one, is in range and the loss goes with the supply: by one
+// match, since every source is tested in every report.
+fn is_matched_in_range(supply: Supply, loss: Loss) -> bool
+    ensures { λ r. ⌜ r ≡ (supplyWithinLimits supply && lossMatches supply loss) ⌝ }
+{
+    let none = records::is_nothing(loss);
+    match supply {
+        Supply::Combined => !none,
+        Supply::GridDefault => !none,
+        Supply::Captive(site) => none & (site <= Plant::SITE_LIMIT),
+        Supply::CaptiveDefault => none,
+        Supply::Either(site) => !none & (site <= Plant::SITE_LIMIT),
+    }
+}
+
+// Whether a source is such as an entry leaves: within the limits of an accepted entry.
+fn source_is_intact(source: Source) -> bool
+    ensures { λ r. ⌜ r ≡ sourceIntact (some source) ⌝ }
+{
+    let supply = source.supply;
+    let loss = source.loss;
+    if source.energy <= Reading::LIMIT {
+        if is_matched_in_range(supply, loss) {
+            return records::loss_is_within_limits(loss);
+        }
+    }
+    false
+}
+
+// P, B, P' and B' of the sources that stand, in one pass.
+fn totals_of(sources: [SourceRecord; Source::PLACES]) -> TotalsSummed
+    ensures { λ r. ⌜ r ≡ totalsSummed sources ⌝ }
+{
+    let none = Consumption {
         project: 0,
         baseline: 0,
         projects: 0,
         baselines: 0,
-    }
-}
-
-fn plus(a: Consumption, b: Consumption) -> Consumption
-    requires { ⌜ ConsumptionWithin lastSource a × ConsumptionWithin 1 b ⌝ }
-    ensures { λ r. ⌜ r ≡ summed a b ⌝ }
-{
-    Consumption {
-        project: a.project + b.project,
-        baseline: a.baseline + b.baseline,
-        projects: a.projects + b.projects,
-        baselines: a.baselines + b.baselines,
-    }
-}
-
-// The totals with what a record shows.
-fn with_source(totals: Totals, held: SourceRecord) -> Totals
-    requires { ⌜ ConsumptionWithin lastSource (totals .factor) × ConsumptionWithin lastSource (totals .loss) × (sourceIntact (sourceIn held) ≡ true) ⌝ }
-    ensures { λ r. ⌜ r ≡ totalsWith totals (sourceIn held) ⌝ }
-{
-    if held.stands {
-        let supply = held.supply;
-        let side = held.side;
-        return Totals {
-            factor: plus(
-                totals.factor,
-                share_of(side, held.energy, compares_factor(supply)),
-            ),
-            loss: plus(
-                totals.loss,
-                share_of(side, held.energy, compares_loss(supply)),
-            ),
-        };
-    }
-    totals
-}
-
-// P, B, P' and B' of the sources that stand, in one pass.
-fn totals_of(sources: [SourceRecord; Source::PLACES]) -> Totals
-    requires { ⌜ sourcesIntact sources ≡ true ⌝ }
-    ensures { λ r. ⌜ r ≡ totalsOf (sourcePlace sources) ⌝ }
-{
+    };
     let mut totals = Totals {
-        factor: share_of(Side::Project, 0, false),
-        loss: share_of(Side::Project, 0, false),
+        factor: none,
+        loss: none,
     };
     let mut i = 0;
     while i < Source::PLACES {
         let held = sources[i];
-        totals = with_source(totals, held);
+        if held.stands {
+            let source = held.source();
+            if source_is_intact(source) == false {
+                return TotalsSummed::Damaged;
+            }
+            totals = with_source(totals, source);
+        }
         i += 1;
     }
-    totals
+    TotalsSummed::Summed(totals)
 }
 
-// A plant's milligrams: its fuel lines, each rounded.
-fn plant_milligrams(plant: Plant, direction: Direction) -> u64
-    requires { ⌜ plantIntact (some plant) ≡ true ⌝ }
-    ensures { λ r. ⌜ (r ≡ plantMilligrams direction (plainOf plant)) × (r ≤ plantBound) ⌝ }
+impl SiteSums {
+    fn empty() -> SiteSums
+        ensures { λ r. ⌜ r ≡ noPlants ⌝ }
+    {
+        SiteSums {
+            up: 0,
+            down: 0,
+            generation: 0,
+        }
+    }
+
+    // With one more plant.
+    fn plus(self, plant: SiteSums) -> SiteSums
+        requires { ⌜ SiteWithin lastPlant self × SiteWithin 1 plant ⌝ }
+        ensures { λ r. ⌜ r ≡ sitePlus self plant ⌝ }
+    {
+        SiteSums {
+            up: self.up + plant.up,
+            down: self.down + plant.down,
+            generation: self.generation + plant.generation,
+        }
+    }
+}
+
+// What a plant adds at its site: its fuel lines, each rounded both ways. A line that is refused is out of its
+// limits, so that each line is tested once, here.
+fn plant_summed(plant: Plant) -> PlantSummed
+    ensures summed { λ r. ⌜ r ≡ plantSummed plant ⌝ }
+    ensures bound { λ r. ⌜ PlantWithin r ⌝ }
 {
+    if plant.site > Plant::SITE_LIMIT {
+        return PlantSummed::Damaged;
+    }
+    if plant.figures_fit() == false {
+        return PlantSummed::Damaged;
+    }
     let lines = plant.lines;
     let count = plant.count as usize;
-    let mut sum: u64 = 0;
+    let mut up: u64 = 0;
+    let mut down: u64 = 0;
     let mut i = 0;
     while i < count {
         let line = lines[i];
-        let Milligrams::Rounded(milligrams) = line.milligrams(direction) else {
-            return 0;
+        let both = line.milligrams();
+        let rounded_up = both.up;
+        let rounded_down = both.down;
+        let Milligrams::Rounded(more) = rounded_up else {
+            return PlantSummed::Damaged;
         };
-        sum += milligrams;
+        let Milligrams::Rounded(less) = rounded_down else {
+            return PlantSummed::Damaged;
+        };
+        up += more;
+        down += less;
         i += 1;
     }
-    sum
+    PlantSummed::Summed(SiteSums {
+        up,
+        down,
+        generation: plant.generation as u64,
+    })
 }
 
-// The sums with what a record shows.
-fn with_plant(sums: SiteSums, held: PlantRecord, site: u8, direction: Direction) -> SiteSums
-    requires { ⌜ (sums .milligrams ≤ lastPlant * plantBound) × (sums .generation ≤ lastPlant * generationLimit) × (plantIntact (plantIn held) ≡ true) ⌝ }
-    ensures { λ r. ⌜ (r ≡ siteWith site direction sums (plantIn held)) × (r .milligrams ≤ sums .milligrams + plantBound) × (r .generation ≤ sums .generation + generationLimit) ⌝ }
+// The sums of the plants at each site, in one pass.
+fn site_sums(plants: [PlantRecord; Plant::PLACES]) -> SitesSummed
+    ensures intact { λ r. ⌜ r .intact ≡ plantsIntact plants ⌝ }
+    ensures sites { λ r. ⌜ SitesOf plants r ⌝ }
 {
-    if held.stands {
-        if held.site == site {
-            let plant = held.plant();
-            return SiteSums {
-                milligrams: sums.milligrams + plant_milligrams(plant, direction),
-                generation: sums.generation + held.generation as u64,
-            };
-        }
-        return sums;
-    }
-    sums
-}
-
-// The milligrams and the generation of the plants at a site, in one pass.
-fn site_sums(plants: [PlantRecord; Plant::PLACES], site: u8, direction: Direction) -> SiteSums
-    requires { ⌜ plantsIntact plants ≡ true ⌝ }
-    ensures { λ r. ⌜ (r .milligrams ≡ siteOf (sitePlants plants) site .milligrams direction) × (r .generation ≡ siteOf (sitePlants plants) site .generation) ⌝ }
-{
-    let mut sums = SiteSums {
-        milligrams: 0,
-        generation: 0,
-    };
+    let none = SiteSums::empty();
+    let mut sites = [none; Plant::SITE_PLACES];
     let mut i = 0;
     while i < Plant::PLACES {
         let held = plants[i];
-        sums = with_plant(sums, held, site, direction);
+        if held.stands {
+            let plant = held.plant();
+            let PlantSummed::Summed(more) = plant_summed(plant) else {
+                return SitesSummed {
+                    intact: false,
+                    sites,
+                };
+            };
+            let at = plant.site as usize;
+            let sums = sites[at];
+            sites[at] = sums.plus(more);
+        }
         i += 1;
     }
-    sums
+    SitesSummed {
+        intact: true,
+        sites,
+    }
 }
 
-// The captive factor of a site in a direction, or refusal 9 or 10.
-fn site_factor(plants: [PlantRecord; Plant::PLACES], site: u8, direction: Direction) -> FactorJudged
-    requires { ⌜ plantsIntact plants ≡ true ⌝ }
-    ensures { λ r. ⌜ factorMeaning r ≡ captiveAt direction (sitePlants plants) site ⌝ }
+// The captive factors of a site, rounded up and down, each of them or refusal 9 or 10.
+fn site_row(sums: SiteSums) -> [FactorJudged; 2]
+    ensures { λ r. ⌜ RowOf sums r ⌝ }
 {
-    let sums = site_sums(plants, site, direction);
-    emissions::captive_factor(direction, sums.milligrams, sums.generation)
+    let up = emissions::captive_factor(Direction::Up, sums.up, sums.generation);
+    let down = emissions::captive_factor(Direction::Down, sums.down, sums.generation);
+    [up, down]
 }
 
-// The captive factor of the site that a supply names, or refusal 9 or 10; where it names none, 9.
-fn named_site_factor(
-    plants: [PlantRecord; Plant::PLACES],
-    supply: Supply,
-    direction: Direction,
-) -> FactorJudged
-    requires { ⌜ plantsIntact plants ≡ true ⌝ }
-    ensures { λ r. ⌜ factorMeaning r ≡ atNamed (captiveAt direction (sitePlants plants)) (siteNamed supply) ⌝ }
+// The table of site factors: a row for each site, whether a source names it or not.
+fn site_factors(sites: [SiteSums; Plant::SITE_PLACES]) -> [[FactorJudged; 2]; Plant::SITE_PLACES]
+    ensures factors { λ r. ⌜ TableOf sites r ⌝ }
+    ensures bound { λ r. ⌜ TableWithin r ⌝ }
 {
-    let named = supply.site();
-    let SiteNamed::At(site) = named else {
-        return FactorJudged::Refused(9);
-    };
-    site_factor(plants, site, direction)
+    let first = site_row(sites[0]);
+    let second = site_row(sites[1]);
+    let third = site_row(sites[2]);
+    let last = site_row(sites[3]);
+    [first, second, third, last]
 }
 
-// The figure of a source: its factor, then its loss, then its grams. The figures of an intact source are
-// within the limits at which grams are worked out.
-fn source_figure(
-    grid: Grid,
-    plants: [PlantRecord; Plant::PLACES],
-    totals: Totals,
-    source: Source,
-) -> FigureJudged
-    requires { ⌜ (gridIntact grid ≡ true) × (plantsIntact plants ≡ true) × (sourceIntact (some source) ≡ true) ⌝ }
-    ensures figure { λ r. ⌜ figureMeaning r ≡ parts (figureAt grid (sitePlants plants) totals source) ⌝ }
+// The row of the table for a supply: that of the site that it names. Where it names none, the first is as good as
+// any, because its factor is not asked for.
+fn row_for(supply: Supply) -> usize
+    ensures { λ r. ⌜ r ≡ rowFor (siteNamed supply) ⌝ }
+{
+    match supply {
+        Supply::Combined => 0,
+        Supply::GridDefault => 0,
+        Supply::Captive(site) => site as usize,
+        Supply::CaptiveDefault => 0,
+        Supply::Either(site) => site as usize,
+    }
+}
+
+// The column of the table for a direction.
+fn column_for(direction: Direction) -> usize
+    ensures { λ r. ⌜ r ≡ columnFor direction ⌝ }
+{
+    match direction {
+        Direction::Up => 0,
+        Direction::Down => 1,
+    }
+}
+
+// The figure of a source: its factor, then its loss, then its grams, by the captive factor of the site that it
+// names. The figures of an intact source are within the limits at which grams are worked out.
+fn source_figure(grid: Grid, captive: FactorJudged, totals: Totals, source: Source) -> FigureJudged
+    requires { ⌜ (gridIntact grid ≡ true) × CaptiveWithin (factorMeaning captive) × (sourceIntact (some source) ≡ true) ⌝ }
+    ensures figure { λ r. ⌜ figureMeaning r ≡ parts (figureAt grid (λ S. factorMeaning captive) totals source) ⌝ }
     ensures bound { λ r. ⌜ FigureWithin r ⌝ }
 {
     let side = source.side;
     let supply = source.supply;
     let loss = source.loss;
     let direction = side.direction();
-    let captive = named_site_factor(plants, supply, direction);
     let judged = supply.factor(direction, grid, captive, totals.factor);
     let FactorJudged::Given(factor) = judged else {
         return FigureJudged::Refused(judged.refusal());
@@ -397,15 +519,17 @@ impl Sums {
     }
 }
 
-// The figures of the sources that stand, by rising number, summed by side; the first refusal ends it.
+// The figures of the sources that stand, by rising number, summed by side; the first refusal ends it. A site's
+// factor or refusal is read from the table for a source that names the site, and for no other.
 fn walk(
     grid: Grid,
-    plants: [PlantRecord; Plant::PLACES],
-    sources: [SourceRecord; Source::PLACES],
+    factors: [[FactorJudged; 2]; Plant::SITE_PLACES],
     totals: Totals,
+    sources: [SourceRecord; Source::PLACES],
 ) -> Walked
-    requires { ⌜ (gridIntact grid ≡ true) × (plantsIntact plants ≡ true) × (sourcesIntact sources ≡ true) × (totals ≡ totalsOf (sourcePlace sources)) ⌝ }
-    ensures { λ r. ⌜ r ≡ walkedOf (figuresFrom (inputOfRecords grid plants sources) (sourcesOf (inputOfRecords grid plants sources))) ⌝ }
+    requires { ⌜ (gridIntact grid ≡ true) × TableWithin factors × (sourcesIntact sources ≡ true) ⌝ }
+    ensures walked { λ r. ⌜ r ≡ walkedOf (figuresBy (tableFigure grid factors totals) (standing (sourcePlace sources) 0 32)) ⌝ }
+    ensures bound { λ r. ⌜ WalkedWithin r ⌝ }
 {
     let mut sums = Sums::empty();
     let mut i: u8 = 0;
@@ -413,11 +537,13 @@ fn walk(
         let held = sources[i as usize];
         if held.stands {
             let source = held.source();
-            let judged = source_figure(grid, plants, totals, source);
+            let supply = source.supply;
+            let side = source.side;
+            let captive = factors[row_for(supply)][column_for(side.direction())];
+            let judged = source_figure(grid, captive, totals, source);
             let FigureJudged::Given(figure) = judged else {
                 return Walked::Refused(judged.refusal(), i);
             };
-            let side = source.side;
             sums = sums.plus(side, figure.grams);
         }
         i += 1;
@@ -428,12 +554,13 @@ fn walk(
 impl SideSum {
     // The side of the report, its tonnes rounded as the side.
     fn reported(self, side: Side) -> SideReport
+        requires { ⌜ SideBounded (lastSource + 1) self ⌝ }
         ensures { λ r. ⌜ sideMeaning r ≡ sideFrom side self ⌝ }
     {
         SideReport {
             tonnes: rounding::divide(side.direction(), self.grams, 1_000_000),
             grams: self.grams,
-            sources: self.sources,
+            sources: self.sources as u8,
         }
     }
 }
@@ -449,6 +576,7 @@ fn reduction(baseline: u64, project: u64, leakage: u64) -> i64
 impl Sums {
     // The report, or refusal 13 for a side above 1,000,000,000,000,000 grams.
     fn reported(self) -> Reported
+        requires { ⌜ Bounded (lastSource + 1) self ⌝ }
         ensures { λ r. ⌜ reportMeaning r ≡ reportedOf self ⌝ }
     {
         let project = self.project;
@@ -475,82 +603,6 @@ impl Sums {
     }
 }
 
-// Whether the records are those that entries leave: within the limits of an accepted entry.
-fn plant_is_intact(held: PlantRecord) -> bool
-    ensures { λ r. ⌜ r ≡ plantIntact (plantIn held) ⌝ }
-{
-    if held.stands {
-        let plant = held.plant();
-        let answer = plant.judged(0);
-        return match answer {
-            Answer::Accepted => true,
-            Answer::Refused(_) => false,
-        };
-    }
-    true
-}
-
-fn source_is_intact(held: SourceRecord) -> bool
-    ensures { λ r. ⌜ r ≡ sourceIntact (sourceIn held) ⌝ }
-{
-    if held.stands {
-        let supply = held.supply;
-        let loss = held.loss;
-        if records::supply_is_within_limits(supply) {
-            if records::loss_is_within_limits(loss) {
-                if records::is_matched(supply, loss) {
-                    return held.energy <= Reading::LIMIT;
-                }
-            }
-        }
-        return false;
-    }
-    true
-}
-
-// These two look at every record: a loop that ends early is unrolled with a copy of the array in parts.
-fn plants_are_intact(plants: [PlantRecord; Plant::PLACES]) -> bool
-    ensures { λ r. ⌜ r ≡ plantsIntact plants ⌝ }
-{
-    let mut intact = true;
-    let mut i = 0;
-    while i < Plant::PLACES {
-        let held = plants[i];
-        intact = plant_is_intact(held) & intact;
-        i += 1;
-    }
-    intact
-}
-
-fn sources_are_intact(sources: [SourceRecord; Source::PLACES]) -> bool
-    ensures { λ r. ⌜ r ≡ sourcesIntact sources ⌝ }
-{
-    let mut intact = true;
-    let mut i = 0;
-    while i < Source::PLACES {
-        let held = sources[i];
-        intact = source_is_intact(held) & intact;
-        i += 1;
-    }
-    intact
-}
-
-// The answer to a report on records that are intact.
-fn answer(
-    grid: Grid,
-    plants: [PlantRecord; Plant::PLACES],
-    sources: [SourceRecord; Source::PLACES],
-) -> Reported
-    requires { ⌜ (gridIntact grid ≡ true) × (plantsIntact plants ≡ true) × (sourcesIntact sources ≡ true) ⌝ }
-    ensures { λ r. ⌜ reportMeaning r ≡ reportOf (inputOfRecords grid plants sources) ⌝ }
-{
-    let walked = walk(grid, plants, sources, totals_of(sources));
-    match walked {
-        Walked::Refused(number, source) => Reported::RefusedAt(number, source),
-        Walked::Summed(sums) => sums.reported(),
-    }
-}
-
 // Reports on records: on what stands, where everything that stands meets the limits of an accepted entry
 // (document 01, "Report").
 pub fn report_of(
@@ -560,12 +612,20 @@ pub fn report_of(
 ) -> Reported
     ensures { λ r. ⌜ reportMeaning r ≡ checkedReportOf (inputOfRecords grid plants sources) ⌝ }
 {
-    if grid.is_intact() {
-        if plants_are_intact(plants) {
-            if sources_are_intact(sources) {
-                return answer(grid, plants, sources);
-            }
-        }
+    if grid.is_intact() == false {
+        return Reported::Damaged;
     }
-    Reported::Damaged
+    let TotalsSummed::Summed(totals) = totals_of(sources) else {
+        return Reported::Damaged;
+    };
+    let summed = site_sums(plants);
+    if summed.intact == false {
+        return Reported::Damaged;
+    }
+    let sites = summed.sites;
+    let walked = walk(grid, site_factors(sites), totals, sources);
+    match walked {
+        Walked::Refused(number, source) => Reported::RefusedAt(number, source),
+        Walked::Summed(sums) => sums.reported(),
+    }
 }

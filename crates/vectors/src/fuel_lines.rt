@@ -8,12 +8,17 @@ use crate::lines::read_line;
 use crate::lines::write_number;
 use crate::lines::write_refused;
 use fuel::Milligrams;
+use rounding::Direction;
 
 pub fn answer_line() -> bool {
     let mut line = [0u8; 85];
     if read_line(&mut line) {
-        let up_or_down = direction(field(&line, 0));
-        match field_fuel_line(&line, 1).milligrams(up_or_down) {
+        let both = field_fuel_line(&line, 1).milligrams();
+        let rounded = match direction(field(&line, 0)) {
+            Direction::Up => both.up,
+            Direction::Down => both.down,
+        };
+        match rounded {
             Milligrams::Refused => {
                 write_refused(2);
             }

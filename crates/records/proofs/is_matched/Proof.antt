@@ -1,20 +1,11 @@
 -- `records::is_matched` meets its contract: each kind of supply in turn. Assumes nothing.
 use borrow.Author.Needs.{needs}
-use mathlib.Core.Path.{_≡_, sym, ap, _∙_}
-use mathlib.Core.Bool.{Bool, not}
+use mathlib.Core.Path.{sym, ap, _∙_}
 use Rattle.emissions.specs.declared.Supply.{Supply}
-use Rattle.emissions.specs.declared.Loss.{Loss}
-use Rattle.emissions.specs.declared.Loss.the-variants.{Nothing, Measured, Default20, Default3}
-use Rattle.records.specs.Judging.{isNothing, isSomething, lossMatches}
+use Rattle.records.specs.Judging.{lossMatches}
+use Rattle.records.proofs.Judged.{something}
 use Rattle.records.proofs.is_matched.Statement.{statement}
 use Rattle.records.proofs.is_matched.Tie as tie
-
--- A loss is something where it is not nothing.
-something : (l : Loss) (b : Bool) → b ≡ isNothing l → not b ≡ isSomething l
-something Nothing b e = ap not e
-something (Measured T) b e = ap not e
-something Default20 b e = ap not e
-something Default3 b e = ap not e
 
 is-nothing-requires : tie.Need-is-nothing-requires
 is-nothing-requires c κs = search needs

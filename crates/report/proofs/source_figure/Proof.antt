@@ -2,9 +2,9 @@
 use borrow.Author.Needs.{needs}
 use mathlib.Core.Path.{_≡_, sym, ap, _∙_}
 use mathlib.Core.Option.{some, Option·some-injective}
-use Prim.Native.Nat.{ℕ, _≤_}
+use Prim.Native.Nat.{_≤_}
 use Rattle.metering.specs.Reading.{limit}
-use Rattle.rounding.specs.Outcome.{Outcome, refused}
+use Rattle.rounding.specs.Outcome.{refused}
 use Rattle.emissions.specs.Factor.{factorLimit, chosen, factorIn}
 use Rattle.emissions.specs.Loss.{lossOf}
 use Rattle.emissions.specs.Answers.{factorMeaning, factorRefusal, lossMeaning, lossRefusal, emissionsMeaning}
@@ -13,10 +13,7 @@ use Rattle.emissions.specs.declared.FactorJudged.{FactorJudged}
 use Rattle.emissions.specs.declared.LossJudged.{LossJudged}
 use Rattle.emissions.specs.declared.Emissions.{Emissions}
 use Rattle.emissions.specs.declared.EmissionsJudged.{EmissionsJudged}
-use Rattle.emissions.proofs.Supplies.{chosen-named}
 use Rattle.emissions.proofs.Figures.{emissions-within}
-use Rattle.report.specs.Report.{captiveAt}
-use Rattle.report.specs.Steps.{sitePlants, factorAt}
 use Rattle.report.proofs.Lists.{never-some}
 use Rattle.report.proofs.Summing.{source-fits}
 use Rattle.report.proofs.Walks.{open-limit, grams-limit, given-limit, no-factor, no-loss, both-parts}
@@ -26,25 +23,15 @@ use Rattle.report.proofs.source_figure.Tie as tie
 direction-requires : tie.Need-direction-requires
 direction-requires c κs = search needs
 
-named-site-factor-requires : tie.Need-named-site-factor-requires
-named-site-factor-requires c κs = search needs
-
 factor-requires : tie.Need-factor-requires
 factor-requires c κs = search needs
 
 -- What the calls gave, by what is known of it.
 factored : (c : tie.After-factor) (j : FactorJudged) → c .factor .result ≡ j
-    → let b = c .before .before in
+    → let b = c .before in
     let a = b .before .args in
-    factorAt (b .direction .result) (a .grid) (sitePlants (a .plants)) (a .totals .factor) (a .source .supply) ≡ factorMeaning j
-factored c j e =
-    let b = c .before .before in
-    let a = b .before .args in
-    let dir = b .direction .result in
-    let totals = a .totals .factor in
-    ap factorIn (sym (chosen-named dir (a .grid) totals (captiveAt dir (sitePlants (a .plants))) (a .source .supply)))
-    ∙ ap (λ (o : Outcome ℕ). factorIn (chosen dir (a .grid) (λ S. o) totals (a .source .supply))) (sym (c .before .named-site-factor .ensures))
-    ∙ sym (c .factor .ensures) ∙ ap factorMeaning e
+    factorIn (chosen (b .direction .result) (a .grid) (λ S. factorMeaning (a .captive)) (a .totals .factor) (a .source .supply)) ≡ factorMeaning j
+factored c j e = sym (c .factor .ensures) ∙ ap factorMeaning e
 
 enum-known-judged : tie.Need-enum-known-judged
 enum-known-judged c = search needs
@@ -58,10 +45,10 @@ refusal-requires c κs = search needs
 returns : tie.Need-returns
 returns c =
     let b = c .before .before .before in
-    let a = b .before .before .before .args in
+    let a = b .before .before .args in
     let told = c .before .enum-told .given .1 in (
       ap refused (c .refusal .ensures ∙ ap factorRefusal told)
-          ∙ no-factor (a .grid) (sitePlants (a .plants)) (a .totals) (a .source) _ (b .before .before .direction .ensures) _ (factored b _ told),
+          ∙ no-factor (a .grid) _ (a .totals) (a .source) _ (b .before .direction .ensures) _ (factored b _ told),
       tt,
     )
 
@@ -69,7 +56,7 @@ judged-requires : tie.Need-judged-requires
 judged-requires c κs = search needs
 
 opened : (c : tie.After-judged2) (j : LossJudged) → c .judged2 .result ≡ j
-    → let b = c .before .before .before .before .before .before in
+    → let b = c .before .before .before .before .before in
     let a = b .before .args in
     lossOf (b .direction .result) (a .totals .loss) (a .source .loss) ≡ lossMeaning j
 opened c j e = sym (c .judged2 .ensures) ∙ ap lossMeaning e
@@ -87,28 +74,28 @@ returns-2 : tie.Need-returns-2
 returns-2 c =
     let l = c .before .before .before in
     let b = l .before .before .before .before in
-    let a = b .before .before .before .args in
+    let a = b .before .before .args in
     let told = c .before .enum-told2 .given .1 in (
       ap refused (c .refusal2 .ensures ∙ ap lossRefusal told)
-          ∙ no-loss (a .grid) (sitePlants (a .plants)) (a .totals) (a .source) _ (b .before .before .direction .ensures) _
+          ∙ no-loss (a .grid) _ (a .totals) (a .source) _ (b .before .direction .ensures) _
           (factored b _ (l .before .before .judged .given .1)) _ (opened l _ told),
       tt,
     )
 
 -- The energy, the loss and the factor are within their limits.
 limits : (c : tie.After-known-told2)
-    → let a = c .before .before .before .before .before .before .before .before .before .before .args in
+    → let a = c .before .before .before .before .before .before .before .before .before .args in
     (a .source .energy ≤ limit)
     × (c .before .«open» .given .0 .0 ≤ 5000)
     × (c .before .before .before .before .before .judged .given .0 .0 ≤ factorLimit)
 limits c =
     let l = c .before .before .before in
     let b = l .before .before .before .before in
-    let a = b .before .before .before in
+    let a = b .before .before in
     let fits = source-fits (a .args .source) (a .pre .2) in (
-      fits .1,
-      open-limit _ (a .args .totals .loss) (a .args .source .loss) _ (fits .0) (opened l _ (c .before .«open» .given .1)),
-      given-limit _ (a .args .grid) (sitePlants (a .args .plants)) (a .args .totals .factor) (a .args .source .supply) _ (a .pre .0)
+      fits .2,
+      open-limit _ (a .args .totals .loss) (a .args .source .loss) _ (fits .1) (opened l _ (c .before .«open» .given .1)),
+      given-limit (a .args .grid) _ (a .args .totals) (a .args .source) (a .pre .0) (λ S. a .pre .1) _ _
           (factored b _ (l .before .before .judged .given .1)),
     )
 
@@ -120,8 +107,8 @@ worked : (c : tie.After-emissions-of) (j : EmissionsJudged) → c .emissions-of 
     → let k = c .before in
     let l = k .before .before .before in
     let b = l .before .before .before .before in
-    let a = b .before .before .before .args in
-    let dir = b .before .before .direction .result in
+    let a = b .before .before .args in
+    let dir = b .before .direction .result in
     let U = energyWithLosses dir (a .source .energy) (k .before .«open» .given .0 .0) in
     emissionsMeaning j ≡ some (record { energy = U; grams = gramsOf dir U (k .before .before .before .before .before .judged .given .0 .0) })
 worked c j e =
@@ -142,10 +129,10 @@ returns-4 c =
     let w = c .before .before .before in
     let l = w .before .before .before .before in
     let b = l .before .before .before .before in
-    let a = b .before .before .before .args in
+    let a = b .before .before .args in
     let h = limits (w .before) in
     let e = Option·some-injective _ _ (worked w _ (c .before .worked .given .1)) in (
-      both-parts (a .grid) (sitePlants (a .plants)) (a .totals) (a .source) _ (b .before .before .direction .ensures) _
+      both-parts (a .grid) _ (a .totals) (a .source) _ (b .before .direction .ensures) _
           (factored b _ (l .before .before .judged .given .1)) _ _ _
           (opened l _ (w .before .before .«open» .given .1)) (ap (λ (x : Emissions). x .energy) e) (ap (λ (x : Emissions). x .grams) e),
       rw (ap (λ (x : Emissions). x .grams) e) (grams-limit _ _ _ _ (h .0) (h .1) (h .2)),
@@ -156,7 +143,6 @@ source-figure-spec =
     tie.close
     (tie.spec
     direction-requires
-    named-site-factor-requires
     factor-requires
     enum-known-judged
     enum-told
