@@ -70,7 +70,7 @@ rest-none place n i h =
     rw e
 
 -- Where all are intact, each is.
-pub intact-at : {A : Type 0} (p : Option A → Bool) (place : ℕ → Option A) (n i : ℕ) → allIntact p place n ≡ true → i < n → p (place i) ≡ true
+intact-at : {A : Type 0} (p : Option A → Bool) (place : ℕ → Option A) (n i : ℕ) → allIntact p place n ≡ true → i < n → p (place i) ≡ true
 unfolding allIntact
 intact-at p place zero i h l = absurd (none-there l)
   where
@@ -83,6 +83,10 @@ intact-at p place (suc n) i h l =
       | inl z ↦ subst (λ (k : ℕ). p (place k) ≡ true) (sym z) (b .0)
       | inr k ↦ intact-at p place n i (b .1) k
     ]
+
+pub intact-item : {A : Type 0} (p : Option A → Bool) (place : ℕ → Option A) (n i : ℕ) (a : A) → allIntact p place n ≡ true → i < n → place i ≡ some a
+    → p (some a) ≡ true
+intact-item p place n i a h l e = subst (λ o. p o ≡ true) e (intact-at p place n i h l)
 
 -- One more that is intact.
 pub intact-next : {A : Type 0} (p : Option A → Bool) (place : ℕ → Option A) (i : ℕ) → p (place i) ≡ true → allIntact p place i ≡ true

@@ -32,10 +32,11 @@ use Rattle.emissions.specs.declared.Supply.the-variants.{Combined, GridDefault,
 use Rattle.rounding.proofs.Outcomes.{never-given, given-is, then-given}
 use Rattle.emissions.specs.Grid.{gridIntact}
 use Rattle.emissions.proofs.Grids.{intact-sound}
-use Rattle.emissions.proofs.Supplies.{chosen-same, factor-limit, at-site-limit}
+use Rattle.emissions.proofs.Factors.{captive-given}
+use Rattle.emissions.proofs.Supplies.{chosen-same, factor-limit}
 use Rattle.emissions.proofs.Losses.{LossSound, loss-limit}
 use Rattle.emissions.proofs.Figures.{energy-limit}
-use Rattle.report.specs.Report.{ReportInput, Numbered, prependStanding, standing, selected, siteOf, captiveAt, plantsIn, plantsOf, sourcesOf, intact, sourceFigure, Figured, Figures, declined, figured, withFigure, figuresFrom, ofSide, replyFrom, reportOf, inputOfRecords}
+use Rattle.report.specs.Report.{ReportInput, Numbered, prependStanding, standing, selected, captiveAt, plantsIn, plantsOf, sourcesOf, intact, sourceFigure, Figured, Figures, declined, figured, withFigure, figuresFrom, ofSide, replyFrom, reportOf, inputOfRecords}
 use Rattle.records.specs.Judging.{lastSite, supplyWithinLimits, lossWithinLimits}
 use Rattle.report.specs.Intact.{plantIntact, allIntact, sourceIntact, sourcesIntact}
 use Rattle.records.specs.Records.{sourcePlace}
@@ -52,7 +53,7 @@ use Rattle.report.specs.declared.Totals.{Totals}
 use Rattle.report.specs.declared.Walked.{Walked}
 use Rattle.report.specs.declared.Walked.the-variants as walked
 use Rattle.report.proofs.Lists.{numbered, never-some, standing-all}
-use Rattle.report.proofs.Summing.{intact-at, rest-next, source-fits}
+use Rattle.report.proofs.Summing.{intact-item, rest-next, source-fits}
 
 -- ---- the figure of a source
 
@@ -74,7 +75,7 @@ grams-limit dir E T F e t f =
     divided-at-most dir (U * F) 1000000 1500000000000 (omega arith) (omega (arith, mul-le-mul-right F (energy-limit dir E T e t)))
 
 -- A supply within its limits names a site in range, if it names one.
-pub named-site : (supply : Supply) → supplyWithinLimits supply ≡ true → (S : ℕ) → siteNamed supply ≡ some S → S ≤ lastSite
+named-site : (supply : Supply) → supplyWithinLimits supply ≡ true → (S : ℕ) → siteNamed supply ≡ some S → S ≤ lastSite
 named-site Combined h S e = absurd (never-some e)
 named-site GridDefault h S e = absurd (never-some e)
 named-site (Captive N) h S e = subst (λ (n : ℕ). n ≤ lastSite) (Option·some-injective N S e) (leb-true N lastSite h)
@@ -278,7 +279,7 @@ pub report-figures : (grid : Grid) (plants : List PlantRecord) (sources : List S
 unfolding sourceFigure
 report-figures grid plants sources factors table h =
     figures-agree _ _ (standing (sourcePlace sources) 0 32) (standing-all (sourcePlace sources) _ 0 32 (λ n s e l u.
-    let w = subst (λ (o : Option Source). sourceIntact o ≡ true) e (intact-at sourceIntact (sourcePlace sources) 32 n h u) in
+    let w = intact-item sourceIntact (sourcePlace sources) 32 n s h u e in
     figure-same grid _ _ _ s (λ S q. table (direction (s .side)) S (named-site (s .supply) (source-fits s w .0) S q))))
     ∙ sym (figures-by (inputOfRecords grid plants sources) _)
 
@@ -305,8 +306,8 @@ intact-figure-limit b h n s f l at e =
     let p = and-both (gridIntact (b .grid) && allIntact plantIntact (b .plant) 8) _ h in
     let q = and-both (gridIntact (b .grid)) _ (p .0) in
     let dir = direction (s .side) in
-    figure-limit (b .grid) (captiveAt dir (plantsOf b)) (totalsOf (b .source)) s (q .0) (λ S F k. at-site-limit dir (siteOf (plantsOf b) S) F k)
-    (subst (λ (o : Option Source). sourceIntact o ≡ true) at (intact-at sourceIntact (b .source) 32 n (p .1) l)) f e
+    figure-limit (b .grid) (captiveAt dir (plantsOf b)) (totalsOf (b .source)) s (q .0) (λ S F k. captive-given dir _ _ F k .2)
+    (intact-item sourceIntact (b .source) 32 n s (p .1) l at) f e
 
 -- ---- limits
 

@@ -144,6 +144,7 @@ abbrev pub columnFor : Direction → ℕ
 columnFor Up = 0
 columnFor Down = 1
 
+-- By the site that a supply names. Where it names none any row will do.
 abbrev pub rowFor : Option ℕ → ℕ
 rowFor none = 0
 rowFor (some S) = S

@@ -16,7 +16,7 @@ use Rattle.report.specs.Report.{standing}
 use Rattle.report.specs.Intact.{sourceIntact}
 use Rattle.report.specs.Steps.{rowFor, tableFigure, figuresBy, parts, figureMeaning, FigureWithin, figureRefusal, Bounded, walkedOf}
 use Rattle.report.specs.declared.Walked.the-variants.{Refused}
-use Rattle.report.proofs.Summing.{intact-at, source-fits}
+use Rattle.report.proofs.Summing.{intact-item, source-fits}
 use Rattle.report.proofs.Walks.{row-limit, column-limit, figure-same, resumed, resumed-first, resumed-last, left, left-none, skips, goes-on, stops, none-bounded, bounded-widen, bounded-more}
 use Rattle.report.proofs.walk.Statement.{statement}
 use Rattle.report.proofs.walk.Tie as tie
@@ -66,8 +66,8 @@ unbroken : (c : tie.After-source Inv-loop μ-loop) → sourceIntact (some (c .so
 unfolding noSource
 unbroken c =
     let l = c .before .before .before .before in
-    rw (c .source .ensures) (subst (λ (o : Option Source). sourceIntact o ≡ true) (stands c)
-    (intact-at sourceIntact (place l) 32 (l .loop .i) (l .before .before .pre .2) (c .before .before .before .loop-test .taken)))
+    rw (c .source .ensures)
+    (intact-item sourceIntact (place l) 32 (l .loop .i) (source l) (l .before .before .pre .2) (c .before .before .before .loop-test .taken) (stands c))
 
 source-requires : tie.Need-source-requires Inv-loop μ-loop
 source-requires c κs = search needs
