@@ -25,7 +25,7 @@ SUPPLIES = ('(combined) (%)', '(captive $) (none)', '(either $) (%)', '(griddefa
 
 def full_ledger() -> list[str]:
     """A grid of margins, 8 plants of 4 fuel lines of all kinds on 4 sites, and 32 sources of 4
-    meters over all supplies and losses."""
+    meters, two of them by a ratio, over all supplies and losses."""
     lines = ['(grid margins 1012400 612501 50 50 thermal)']
     for plant in range(8):
         kinds = ('(fuel {} 43013 74093)', '(mass {} 8593)', '(volume {} 991 8587)')
@@ -36,7 +36,8 @@ def full_ledger() -> list[str]:
         supply = SUPPLIES[source % 8].replace('$', str(source // 8))
         supply = supply.replace('%', 'default3' if side == 'baseline' else 'default20')
         meters = (f'(whole + {17 * source} {80_000_000 + 98_765 * source})'
-                  f' (single + 3f800000 42f6e979) (whole - 5 {1_000 + 3 * source})'
+                  f' (single {40 + source} + 3f800000 42f6e979)'
+                  f' (whole {2 + source} - 5 {1_000 + 3 * source})'
                   ' (single - 3f000000 41200000)')
         lines.append(f'(source {source} {side} {supply} {meters})')
     return lines

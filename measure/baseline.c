@@ -25,7 +25,7 @@ struct margins { uint32_t operating, build; uint8_t operating_weight, build_weig
 struct grid_entry { bool hydro, is_mean; union { uint32_t stated; struct margins margins; }; };
 struct grid { bool stands; struct grid_entry entry; uint32_t up, down; };
 struct ledger { struct grid grid; struct plant plants[8]; struct source sources[32]; };
-struct meter { bool minus, single; uint32_t first, last; };
+struct meter { bool minus, single; uint16_t ratio; uint32_t first, last; };
 struct consumption { uint64_t project, baseline; uint8_t projects, baselines; };
 
 static uint64_t divide(bool up, uint64_t n, uint64_t d) { return n / d + (up && n % d != 0); }
@@ -60,12 +60,13 @@ static int enter_grid(struct ledger *l, struct grid_entry entry) {
 // ---- source entry
 
 static const uint64_t LIMIT = 100000000000ull;
+static const uint16_t RATIO_LIMIT = 10000;
 
-static int reading(uint32_t bits, bool up, uint64_t *watt_hours) {
+static int reading(uint32_t bits, uint16_t ratio, bool up, uint64_t *watt_hours) {
     if (bits > 0x80000000u) return 3;
     uint32_t field = (bits & 0x7fffffffu) >> 23, digits = bits & 0x7fffffu;
     if (field > 153) return 3;
-    uint64_t count = (uint64_t)(field == 0 ? digits : digits | 0x800000u) * 8000;
+    uint64_t count = (uint64_t)(field == 0 ? digits : digits | 0x800000u) * 8000 * ratio;
     uint32_t shift = field < 90 ? 63 : 153 - field;
     uint64_t down = count >> shift, above = down + (down << shift != count);
     if (above > LIMIT) return 3;
@@ -73,15 +74,21 @@ static int reading(uint32_t bits, bool up, uint64_t *watt_hours) {
     return 0;
 }
 
+static bool ratios_fit(const struct meter *meters, int count) {
+    for (int i = 0; i < count; i++) if (meters[i].ratio < 1 || meters[i].ratio > RATIO_LIMIT) return false;
+    return true;
+}
+
 static int energy(const struct meter *meters, int count, bool up, uint64_t *result) {
-    if (count < 1 || count > 4) return 2;
+    if (count < 1 || count > 4 || !ratios_fit(meters, count)) return 2;
     uint64_t adds = 0, takes = 0;
     bool back = false;
     for (int i = 0; i < count; i++) {
+        const struct meter *m = &meters[i];
         uint64_t first, last;
-        bool plus = !meters[i].minus;
-        if (reading(meters[i].last, plus == up, &last) || reading(meters[i].first, plus != up, &first)) return 3;
-        back |= (meters[i].last & 0x7fffffffu) < (meters[i].first & 0x7fffffffu);
+        bool plus = !m->minus;
+        if (reading(m->last, m->ratio, plus == up, &last) || reading(m->first, m->ratio, plus != up, &first)) return 3;
+        back |= (m->last & 0x7fffffffu) < (m->first & 0x7fffffffu);
         if (plus) adds += last, takes += first; else adds += first, takes += last;
     }
     if (back) return 4;
@@ -276,11 +283,11 @@ static struct source source_of(enum ledger_kind kind, uint32_t seed) {
     return s;
 }
 
-uint64_t plain_source(const uint32_t *words, uint32_t times, uint32_t first, uint32_t last) {
+uint64_t plain_source(const uint32_t *words, uint32_t times, uint32_t first, uint32_t last, uint32_t ratio) {
     struct ledger l;
     memset(&l, 0, sizeof l);
     for (int i = 0; i < 8; i++) l.plants[i] = plant_of(SOME_SITES, words[1]);
-    struct meter meter = {false, true, first, last}, meters[4] = {meter, meter, meter, meter};
+    struct meter meter = {false, true, (uint16_t)ratio, first, last}, meters[4] = {meter, meter, meter, meter};
     struct source s = {false, PROJECT, COMBINED, 0, DEFAULT20, 0, 0};
     uint64_t sum = 0;
     for (uint32_t i = 0; i < times; i++) {

@@ -41,12 +41,13 @@ static uint32_t source_loss(uint32_t side, uint32_t supply) {
 }
 
 static void put_source(uint32_t *words, uint32_t number) {
-    uint32_t side = below(3), supply = below(5), site = below(4), count = 1 + below(4), meters = below(10);
+    uint32_t side = below(3), supply = below(5), site = below(4), count = 1 + below(4), meters = below(10), ratio = 1 + below(80);
     uint32_t fields = side + 10 * supply + 100 * site + 1000 * source_loss(side, supply) + 10000 * count + 100000 * meters;
     uint32_t first = 0x42f6e979 + below(1 << 20), last = 0x47f12080 + below(1 << 20);
     if (odd_one()) fields = below(1000000);
     if (odd_one()) last = below(0xffffffff);
-    put_call(words, SOURCE, number, fields, first, last);
+    if (odd_one()) ratio = 0;
+    put_call(words, SOURCE, number, fields + 1000000 * ratio, first, last);
 }
 
 // A stated factor or two margins, whose weights sum to 100 but for the odd one.

@@ -1,4 +1,4 @@
-// The program tally in plain C, as a programmer would write it by hand from document 01 and wishes 1 and 2
+// The program tally in plain C, as a programmer would write it by hand from document 01 and wishes 1 to 4
 // of document 02: no proofs. The speed of tally is measured beside it, and its branches guide the fuzzer. It
 // is no third opinion on the rules: its author had read tests/reference.py, so the two may share a
 // misreading. Comments in quotation marks are the papers' sentences; a bare number is a refusal.
@@ -14,7 +14,8 @@ enum { INPUT_LIMIT = 65536, LINE_LIMIT = 256, DIGITS = 18 };
 enum { OK = 0, NO_FORM = 14 };
 enum { SOURCES = 32, PLANTS = 8, SITES = 4, METERS = 4, FUEL_LINES = 4 };
 
-static const u64 WATT_HOURS = 100000000000; // the limit of a reading and of E
+static const u64 WATT_HOURS = 100000000000; // the limit of a reading by its ratio, and of E
+static const u64 RATIO = 10000;             // the limit of a ratio, which is at least 1
 static const u64 FACTOR = 10000000;         // the limit of F and of a margin, in mg/kWh
 static const u64 SIDE_GRAMS = 1000000000000000;
 
@@ -23,7 +24,7 @@ enum supply { COMBINED, GRID_DEFAULT, CAPTIVE, CAPTIVE_DEFAULT, EITHER };
 enum loss { NONE, MEASURED, DEFAULT20, DEFAULT3 };
 enum fuel_kind { ENERGY, MASS, VOLUME };
 
-struct meter { bool single, minus; u64 first, last; };
+struct meter { bool single, minus; u64 ratio, first, last; };
 struct source { bool stands; enum side side; enum supply supply; u64 site; enum loss loss; u64 measured, energy; };
 // Q, and V and C of an energy line, W of one by mass, the density and W of one by volume.
 struct fuel { enum fuel_kind kind; u64 quantity, calorific, content, density, carbon; };
@@ -66,32 +67,41 @@ static bool rounds_up(enum side side) { return side != BASELINE; }
 
 static u64 divided(u64 n, u64 d, bool up) { return n / d + (up && n % d != 0); }
 
-// A register's Wh: 1,000 × digits × 2^(exponent - 150), or 3.
-static int register_watt_hours(u64 bits, bool up, u64 *watt_hours) {
+// A register's Wh by its ratio: ratio × 8,000 × digits × 2^(exponent - 153), or 3.
+static int register_watt_hours(u64 bits, u64 ratio, bool up, u64 *watt_hours) {
     unsigned exponent = bits >> 23 & 0xff;
     u64 digits = bits & 0x7fffff;
     if (exponent == 0) exponent = 1; else digits |= 0x800000;
     if (exponent > 153 || (bits >> 31 && digits != 0)) return 3; // 2^27 kWh and more, infinite, not a number
-    u64 whole = 1000 * digits;
-    if (exponent >= 150) {
-        *watt_hours = whole << (exponent - 150);
-    } else {
-        unsigned shift = 150 - exponent < 63 ? 150 - exponent : 63;
-        *watt_hours = (whole >> shift) + (up && (whole & (((u64)1 << shift) - 1)) != 0);
-    }
-    return *watt_hours > WATT_HOURS ? 3 : OK;
+    u64 product = ratio * 8000 * digits;
+    unsigned shift = 153 - exponent < 63 ? 153 - exponent : 63;
+    u64 down = product >> shift;
+    bool whole = down << shift == product;
+    if (down + !whole > WATT_HOURS) return 3;
+    *watt_hours = down + (up && !whole);
+    return OK;
 }
 
+// "A reading's exact value is multiplied by it before rounding, and the limit of 100,000,000,000 Wh is on
+// the product": a count is held against the limit's quotient, as its product may exceed 64 bits.
 static int reading_watt_hours(const struct meter *m, u64 value, bool up, u64 *watt_hours) {
-    if (m->single) return register_watt_hours(value, up, watt_hours);
-    *watt_hours = value;
-    return value > WATT_HOURS ? 3 : OK;
+    if (m->single) return register_watt_hours(value, m->ratio, up, watt_hours);
+    if (value > WATT_HOURS / m->ratio) return 3;
+    *watt_hours = value * m->ratio;
+    return OK;
 }
 
 // By exact value: accepted registers have the order of their bits, "negative zero is zero".
 static bool runs_back(const struct meter *m) {
     if (!m->single) return m->last < m->first;
     return (m->last & 0x7fffffff) < (m->first & 0x7fffffff);
+}
+
+// "A meter gains a ratio from 1 to 10,000".
+static bool ratios_fit(const struct meter *meters, u64 count) {
+    for (u64 i = 0; i < count; i++)
+        if (meters[i].ratio < 1 || meters[i].ratio > RATIO) return false;
+    return true;
 }
 
 // 3, 4, or E in *energy, below 0 too: "a + meter takes last up and first down, and a - meter takes
@@ -170,7 +180,7 @@ static bool on_grid(enum supply s) { return s == COMBINED || s == GRID_DEFAULT |
 
 static int enter_source(struct ledger *l, u64 number, struct source s, const struct meter *meters, u64 count) {
     if (number >= SOURCES || s.site >= SITES) return 1;
-    if (count < 1 || count > METERS || s.measured > 5000) return 2;
+    if (count < 1 || count > METERS || s.measured > 5000 || !ratios_fit(meters, count)) return 2;
     int64_t energy;
     int refused = judge_meters(meters, count, rounds_up(s.side), &energy);
     if (refused != OK) return refused;
@@ -389,10 +399,17 @@ static bool read_loss(struct text *t, struct source *s) {
     return true;
 }
 
+// A ratio is "written before its sign; left out, it is 1".
+static bool read_ratio(struct text *t, u64 *ratio) {
+    *ratio = 1;
+    return !is_digit(t) || (read_number(t, ratio) && skip(t, " "));
+}
+
 static bool read_meter(struct text *t, struct meter *m) {
     if (skip(t, "(whole ")) m->single = false;
     else if (skip(t, "(single ")) m->single = true;
     else return false;
+    if (!read_ratio(t, &m->ratio)) return false;
     m->minus = skip(t, "- ");
     if (!m->minus && !skip(t, "+ ")) return false;
     bool (*read)(struct text *, u64 *) = m->single ? read_register : read_number;

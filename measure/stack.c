@@ -11,7 +11,7 @@
 typedef uint64_t on_words(const uint32_t *, size_t, uint32_t);
 on_words owner_grid, owner_plant, owner_drop_plant, owner_drop_source;
 on_words hold_64_sources, hold_128_sources, hold_64_plants, hold_128_plants, hold_8_ledgers, hold_16_ledgers;
-uint64_t owner_source(const uint32_t *, size_t, uint32_t, uint32_t, uint32_t);
+uint64_t owner_source(const uint32_t *, size_t, uint32_t, uint32_t, uint32_t, uint32_t);
 uint64_t owner_program(const uint32_t *, size_t);
 uint64_t measure_new(uint32_t);
 uint64_t measure_report(const uint32_t *, size_t, uint32_t, uint32_t);
@@ -21,7 +21,7 @@ static volatile uint32_t one = 1;
 static uint32_t words[32], calls[CALLS * CALL_WORDS];
 
 static uint64_t new_ledger(const uint32_t *w, size_t n, uint32_t at) { return (void)w, (void)n, measure_new(at); }
-static uint64_t owner_singles(const uint32_t *w, size_t n, uint32_t times) { return owner_source(w, n, times, 0x42f6e979, 0x47f12080); }
+static uint64_t owner_singles(const uint32_t *w, size_t n, uint32_t times) { return owner_source(w, n, times, 0x42f6e979, 0x47f12080, MEASURED_RATIO); }
 static uint64_t one_report(const uint32_t *w, size_t n, uint32_t times) { return measure_report(w, n, SOME_SITES, times); }
 static uint64_t owner_calls(const uint32_t *w, size_t n, uint32_t times) { return (void)w, (void)n, (void)times, owner_program(calls, CALLS * CALL_WORDS); }
 
@@ -84,11 +84,26 @@ static void show_grid(const struct grid_answers *g) {
     if (!g->stated || !g->mean || !g->limit || !g->weights) stop("a kind of answer to a grid entry is missing");
 }
 
+// The answers to source entries by a ratio: those accepted, and those by a ratio of 0, all of which are refused.
+struct ratio_answers { size_t accepted, refused; };
+
+static void count_ratio(struct ratio_answers *r, uint32_t ratio, uint32_t told) {
+    if (ratio == 0 && !told) stop("a ratio of 0 is accepted");
+    if (ratio == 0) r->refused++;
+    if (ratio > 1 && !told) r->accepted++;
+}
+
+static void show_ratios(const struct ratio_answers *r) {
+    printf("its source entries: %zu by a ratio above 1 accepted, %zu by a ratio of 0 refused\n", r->accepted, r->refused);
+    if (!r->accepted || !r->refused) stop("a kind of answer to a ratio is missing");
+}
+
 // The answer to a call is what the program's answers to the list up to it and to the list before it differ by:
 // 0 or the number of a refusal, and for a report its grams.
 static void count_answers(void) {
     size_t accepted = 0, refused = 0, given = 0, not_given = 0;
     struct grid_answers grid = {0, 0, 0, 0};
+    struct ratio_answers ratios = {0, 0};
     uint64_t before = 0;
     for (size_t i = 0; i < CALLS; i++) {
         uint64_t sum = owner_program(calls, (i + 1) * CALL_WORDS);
@@ -100,12 +115,14 @@ static void count_answers(void) {
         else if (told) refused++;
         else accepted++;
         if (calls[i * CALL_WORDS] % 10 == GRID) count_grid(&grid, calls[i * CALL_WORDS + 1], told);
+        if (calls[i * CALL_WORDS] % 10 == SOURCE) count_ratio(&ratios, calls[i * CALL_WORDS + 1] / 1000000, told);
         before = sum;
     }
     printf("the program's list: %d calls; %zu entries and drops accepted, %zu refused; %zu reports given, %zu refused\n", CALLS, accepted,
            refused, given, not_given);
     if (!accepted || !refused || !given || !not_given) stop("a kind of answer is missing");
     show_grid(&grid);
+    show_ratios(&ratios);
 }
 
 int main(void) {

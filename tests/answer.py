@@ -24,7 +24,7 @@ import reference
 from reference import (DEMAND_3, SIDES, EnergyLine, Figure, Ledger, Loss, MassLine, Meter, Plant,
                        Report, Source, Supply, VolumeLine, exact_energy, exact_factor,
                        exact_figure, exact_fuel_milligrams, exact_reduction, exact_side,
-                       exact_watt_hours, excess, numbers_of, rounds_up)
+                       excess, numbers_of, rounds_up)
 
 ROOT = Path(__file__).resolve().parent.parent
 EXAMPLE = ROOT / 'examples' / 'site.txt'
@@ -107,7 +107,7 @@ AS_SIDE = 'project and leakage up, baseline down'
 A_SOURCE = f'{shown(SOURCE_KG)} kg for each'
 
 STEPS = {
-    'reading': Step('a reading, register or count, to Wh',
+    'reading': Step("a reading, register or count, times its meter's ratio, to Wh",
                     'what adds to a project or leakage source up, what is taken from it down; '
                     'for a baseline source the other way', f'{shown(READING_WH)} Wh',
                     ('reading-conservative',)),
@@ -197,11 +197,13 @@ def reading_rows(source: Source, number: int, meter: Meter) -> list[Row]:
     """What adds leans as the source does, what is taken the other way."""
     first, last = reference.meter_readings(rounds_up(source.side), meter)
     rows = []
-    for name, entered, value, adds in (('last', meter.last, last, meter.sign == '+'),
-                                       ('first', meter.first, first, meter.sign == '-')):
-        exact = exact_watt_hours(meter.kind, entered)
+    for name, entered, exact, value, adds in (
+            ('last', meter.last, meter.exact_last, last, meter.sign == '+'),
+            ('first', meter.first, meter.exact_first, first, meter.sign == '-')):
         lean = excess(source.side, value, exact)
         as_entered = f'{entered:08x}' if meter.kind == 'single' else shown(entered)
+        if meter.ratio != 1:
+            as_entered = f'{shown(meter.ratio)} × {as_entered}'
         rows.append(Row('reading', f'meter {number} ({meter.sign}), {name} {as_entered}', exact,
                         value, lean if adds else -lean, READING_WH, 'Wh',
                         'up' if rounds_up(source.side) == adds else 'down'))
@@ -569,6 +571,38 @@ def lines_with_slips() -> list[list]:
     return found
 
 
+# Each reading is more than a ratio's part of a Wh off a whole one, on both sides.
+BY_RATIO = (Meter('single', '+', 0x42F6E979, 0x42F6E97A, reference.RATIO_LIMIT),
+            Meter('single', '-', 0x3A000000, 0x3F801062, 7))
+
+
+def readings_standing(side: str) -> list[bool]:
+    """Whether the rows of these readings stand: last and first of +, last and first of -."""
+    source = Source(side, Supply('captivedefault'), Loss('none'), list(BY_RATIO))
+    return [row.stands for meter in BY_RATIO for row in reading_rows(source, 1, meter)]
+
+
+def rounded_before_the_ratio(kind: str, value: int, ratio: int, up: bool) -> int:
+    return ratio * reference.rounded(reference.exact_watt_hours(kind, value, 1), up)
+
+
+def readings_with_slips() -> list[list[bool]]:
+    """The same with each slip of readings, and with readings rounded before their ratio."""
+    made = [slip for slip in slips() if slip.owner is reference and slip.step == 'reading']
+    made.append(Slip('rounded before the ratio', 'reading', reference, 'reading_watt_hours',
+                     rounded_before_the_ratio))
+    found = []
+    for slip in made:
+        with broken_by(slip):
+            found.append(readings_standing('project'))
+    return found
+
+
+# Those rounded up fall twice, those rounded down twice, then those of the - meter, and all.
+READINGS_BROKEN = [*2 * [[False, True, True, False]], *2 * [[True, False, False, True]],
+                   [True, True, False, False], 4 * [False]]
+
+
 def numbers_as_text() -> list[str]:
     """Texts of this file that hold a number which is no part of a name or of a format."""
     tree = ast.parse(Path(__file__).read_text(encoding='utf-8'))
@@ -591,6 +625,10 @@ def self_test() -> int:
             [lines_standing(side) for side in SIDES] == [3 * [True]] * len(SIDES),
         'a slip of fuel lines lets no row stand, of any kind, on the side that it breaks':
             lines_with_slips() == [[3 * [False], 3 * [True]]] * 4,
+        'a row of a reading by a ratio stands':
+            [readings_standing(side) for side in SIDES] == [4 * [True]] * len(SIDES),
+        'a slip of readings lets no row stand that it breaks, by a ratio':
+            readings_with_slips() == READINGS_BROKEN,
         'a row stands from nothing to below its limit':
             [lean for lean in (-1, 0, 1, 2) if row._replace(lean=lean).stands] == [0, 1],
         'a decimal that ends is shown in full': [Fraction(shown(n)) for n in eighths] == eighths,

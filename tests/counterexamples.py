@@ -22,7 +22,7 @@ class Case(NamedTuple):
 def register_above(watt_hours: int) -> int:
     """The least register above so many watt-hours: order is that of the bits."""
     return bisect.bisect_right(range(0x7F800000), watt_hours,
-                               key=lambda r: reference.exact_watt_hours('single', r))
+                               key=lambda r: reference.exact_watt_hours('single', r, 1))
 
 
 def gap_by_factor() -> Case:
@@ -31,6 +31,17 @@ def gap_by_factor() -> Case:
     meters = [f'(single + {above_1 - 1:08x} {last:08x})'
               for last in (above_1, above_1, above_1, above_2)]
     return Case('gap, 13 -> 12',
+                ['(grid 10000000 thermal)',
+                 f'(source 0 project (combined) (loss 5000) {" ".join(meters)})'],
+                DEMAND_3._replace(factor_multiple=12), ('gap 0 by F and U, g',))
+
+
+def gap_by_ratio() -> Case:
+    """Eight readings, by 10,000 a thousandth of a Wh below and above whole ones: E 178,841 for
+    an e of nearly 8 Wh less, and U half a Wh more."""
+    meters = [f'(single 10000 + 42f6ed5b {last})'
+              for last in ('42f6eea5', '42f6eea5', '42f6eea5', '42f6f2a5')]
+    return Case('gap by ratios, 13 -> 12',
                 ['(grid 10000000 thermal)',
                  f'(source 0 project (combined) (loss 5000) {" ".join(meters)})'],
                 DEMAND_3._replace(factor_multiple=12), ('gap 0 by F and U, g',))
@@ -125,8 +136,8 @@ def side_by_tonnes() -> Case:
                 ('project, t', 'leakage, t', 'baseline, t'))
 
 
-CASES = (gap_by_factor, gap_by_energy, gap_by_carbon, gap_by_mean, gap_by_weight, allowances,
-         reduction_by_tonnes, side_by_tonnes)
+CASES = (gap_by_factor, gap_by_ratio, gap_by_energy, gap_by_carbon, gap_by_mean, gap_by_weight,
+         allowances, reduction_by_tonnes, side_by_tonnes)
 
 
 def text(case: Case) -> bytes:

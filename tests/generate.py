@@ -7,19 +7,22 @@
                               reference and counts what they meet
 """
 
+import functools
 import random
 import re
 import sys
 from collections import Counter
+from fractions import Fraction
 from itertools import product
 from pathlib import Path
 
 import counterexamples
 import fuels
 import margins
+import ratios
 import reference
 import sites
-from reference import EnergyLine, FuelLine, MassLine, VolumeLine
+from reference import EnergyLine, FuelLine, MassLine, Meter, VolumeLine
 
 LINES = 60
 
@@ -33,8 +36,14 @@ SPECIAL_REGISTERS = (
     0x3A83126E, 0x3A83126F, 0x3F800000, 0x42F6E979, 0xBF800000, LAST_REGISTER - 1,
     LAST_REGISTER, LAST_REGISTER + 1, 0x7F7FFFFF, 0xFF7FFFFF, 0x7F800000, 0xFF800000,
     0x7F800001, 0x7FC00000, 0xFFC00000, 0x7FFFFFFF, 0xFFFFFFFF)
-# Few, so that P = B and P' = B' come up, and off by one too.
+# Few, so that P = B and P' = B' come up, and off by one too; with ratios that divide some.
 EQUAL_ENERGIES = (0, 500, 1000, 1000, 1001)
+EQUAL_RATIOS = (1, 4, 7, 40, 500)
+READING_LIMIT = reference.READING_LIMIT_WH
+RATIO_LIMIT = reference.RATIO_LIMIT
+# Out of range, though some would be within it in 16 or 32 bits.
+UNFIT_RATIOS = (0, RATIO_LIMIT + 1, RATIO_LIMIT + 2, 65_535, 65_536, 65_537, 65_576, 75_536,
+                2**32, 2**32 + 1, LARGEST)
 FACTOR_LIMIT = reference.FACTOR_LIMIT
 FIRST_WEIGHTS = (0, 1, 25, 33, 50, 50, 67, 75, 99, 100)
 # Weights that do not sum to 100, though some would in 8, 16 or 32 bits.
@@ -52,6 +61,12 @@ PARTS_OF_MILLIGRAMS = (*(MassLine(1, W) for W in (1, 2, 3)),
 # A line of each kind by 1/1000, 1/3 and 1/30 above whole milligrams, and as much below.
 LITTLE_ABOVE = (EnergyLine(1, 1, 1), MassLine(1, 2), VolumeLine(1, 1, 11))
 LITTLE_BELOW = (EnergyLine(999, 1, 1), MassLine(1, 1), VolumeLine(1, 1, 19))
+
+
+@functools.cache
+def last_register(ratio: int) -> int:
+    """The last one within the limit of a reading by this ratio."""
+    return counterexamples.register_above(Fraction(READING_LIMIT, ratio)) - 1
 
 
 # Malformed lines: each takes a line and returns one that should not be a form,
@@ -96,6 +111,9 @@ DAMAGES = (
     lambda rng, line: replaced(rng, line, rb'[0-9a-f]{8}', lambda m: m.upper()),
     lambda rng, line: replaced(rng, line, rb'[0-9a-f]{8}', lambda m: m + b'0'),
     lambda rng, line: replaced(rng, line, rb' [+-]', lambda m: b''),
+    lambda rng, line: replaced(rng, line, rb' [0-9]+ [+-]', lambda m: m[-2:] + m[:-2]),
+    lambda rng, line: replaced(rng, line, rb' [+-]',
+                               lambda m: rng.choice((b' 2', b' 02', b' +2', b'  2', b' 2 ')) + m),
     lambda rng, line: replaced(rng, line, rb'(?s).', lambda m: bytes([rng.randrange(256)])),
     lambda rng, line: inserted(rng, line, b'\0'),
     lambda rng, line: inserted(rng, line, bytes([rng.randrange(128, 256)])),
@@ -183,36 +201,54 @@ class Generator:
         fraction = self.rng.choice((0, 1, 0x7FFFFF, self.rng.randrange(0x800000)))
         return self.rng.randrange(512) << 23 | fraction
 
-    def single_readings(self, sign: str) -> tuple[int, int]:
+    def single_readings(self, sign: str, ratio: int) -> tuple[int, int]:
         """A - meter mostly moves little, so that E is mostly not below 0."""
+        highest = last_register(ratio)
         if self.chance(self.out_of_range):
-            return self.any_register(), self.any_register()
+            beyond = 0, highest + 1
+            return self.rng.choice(((self.any_register(), self.any_register()), beyond))
         if self.chance(0.2):
             first = self.rng.choice((0x00000000, 0x80000000))
-            return first, self.rng.choice((first, self.rng.randrange(LAST_REGISTER + 1)))
+            return first, self.rng.choice((first, self.rng.randrange(highest + 1)))
         if self.chance(0.6):  # 0.5 Wh to 500 MWh
-            first = self.rng.randrange(0x3A000000, 0x49000000)
+            first = self.rng.randrange(0x3A000000, min(highest, 0x49000000))
         else:
-            first = self.rng.randrange(LAST_REGISTER + 1)
+            first = self.rng.randrange(highest + 1)
         far = 0x02000000 if sign == '+' else 0x100
         moved = self.rng.choice((0, 1, 2, *3 * [self.rng.randrange(far)]))
-        return first, min(first + moved, LAST_REGISTER)
+        return first, min(first + moved, highest)
 
-    def whole_readings(self, sign: str) -> tuple[int, int]:
+    def whole_readings(self, sign: str, ratio: int) -> tuple[int, int]:
         if self.equal_energies:
             first = self.rng.choice((0, 7))
-            return first, first + self.rng.choice(EQUAL_ENERGIES)
-        first, last = self.number(10**11), self.number(10**11)
+            return first, first + self.rng.choice(
+                [energy // ratio for energy in EQUAL_ENERGIES if energy % ratio == 0])
+        first, last = (self.number(READING_LIMIT // ratio) for _ in range(2))
         if sign == '-' and self.chance(0.9):
             return first, first + self.rng.randint(0, 9)
         if not self.chance(0.05):
             first, last = min(first, last), max(first, last)
         return first, last
 
+    def ratio(self) -> int | None:
+        """None where it is left out."""
+        if self.chance(0.5):
+            return None
+        if self.equal_energies:
+            return self.rng.choice(EQUAL_RATIOS)
+        return self.rng.choice((1, 2, self.rng.randint(3, 12), self.rng.randint(1, RATIO_LIMIT),
+                                RATIO_LIMIT - 1, RATIO_LIMIT))
+
     def meter(self, sign: str) -> str:
+        return self.meter_by(self.ratio(), sign)
+
+    def meter_by(self, ratio: int | None, sign: str) -> str:
+        """Readings within the limit for a ratio that is out of range are those for none."""
+        before = sign if ratio is None else f'{ratio} {sign}'
+        times = 1 if ratio is None or reference.ratio_refused(ratio) else ratio
         if self.chance(0.5) and not self.equal_energies:
-            return '(single {} {:08x} {:08x})'.format(sign, *self.single_readings(sign))
-        return '(whole {} {} {})'.format(sign, *self.whole_readings(sign))
+            return '(single {} {:08x} {:08x})'.format(before, *self.single_readings(sign, times))
+        return '(whole {} {} {})'.format(before, *self.whole_readings(sign, times))
 
     def meters(self) -> list[str]:
         if self.chance(0.03):
@@ -221,7 +257,15 @@ class Generator:
         signs = [self.rng.choice('++-') for _ in range(count)]
         if not self.chance(0.1):
             signs[0] = '+'
-        return [self.meter(sign) for sign in signs]
+        meters = [self.meter(sign) for sign in signs]
+        return self.with_unfit_ratio(meters) if self.chance(self.out_of_range) else meters
+
+    def with_unfit_ratio(self, meters: list[str]) -> list[str]:
+        """At times beside a meter that would be refused 3."""
+        unreadable = ['(single + 00000000 7fc00000)'] if self.chance(0.5) else []
+        meters = [*meters[:2], self.meter_by(self.rng.choice(UNFIT_RATIOS), '+'), *unreadable]
+        self.rng.shuffle(meters)
+        return meters
 
     # Calls
 
@@ -362,24 +406,62 @@ def listing() -> bytes:
                    '(source 1 baseline (captive 1) (none) (whole + 0 500003))', '(report)'])
 
 
-def every_exponent(sign: int, side: str, readings: str) -> bytes:
+def every_exponent(sign: int, side: str, meter: str) -> bytes:
     """1 g a Wh, so that each report shows E."""
     lines = ['(grid 1000000 hydro)']
     for exponent in range(256):
         for fraction in (0, 0x2AAAAB, 0x7FFFFF):
-            pair = readings.format(f'{sign << 31 | exponent << 23 | fraction:08x}')
-            lines += [f'(source 0 {side} (combined) (loss 0) (single + {pair}))', '(report)']
+            single = meter.format(f'{sign << 31 | exponent << 23 | fraction:08x}')
+            lines += [f'(source 0 {side} (combined) (loss 0) (single {single}))', '(report)']
     return joined(lines)
 
 
 def registers_at_rest() -> bytes:
     lines = ['(grid 1000000 hydro)']
-    for side in ('project', 'baseline'):
-        for register in SPECIAL_REGISTERS:
-            for sign in '+-':
-                meter = f'(single {sign} {register:08x} {register:08x})'
-                lines += [f'(source 0 {side} (combined) (loss 0) {meter} (whole + 0 9))',
-                          '(report)']
+    for side, ratio in product(('project', 'baseline'), ('', '128 ', '10000 ')):
+        for register, sign in product(SPECIAL_REGISTERS, '+-'):
+            meter = f'(single {ratio}{sign} {register:08x} {register:08x})'
+            lines += [f'(source 0 {side} (combined) (loss 0) {meter} (whole + 0 9))', '(report)']
+    return joined(lines)
+
+
+def ratios_at_the_limit() -> bytes:
+    """The last count and the last register within the limit by each ratio, and their neighbours,
+    as last and as first reading; 1 g a Wh."""
+    lines = ['(grid 1000000 hydro)']
+    for ratio, off in product((1, 2, 3, 7, 40, 128, 997, 8_923, 9_697, 9_999, RATIO_LIMIT),
+                              (-1, 0, 1)):
+        count, register = READING_LIMIT // ratio + off, last_register(ratio) + off
+        for side, meter in (('project', f'(whole {ratio} + 0 {count})'),
+                            ('leakage', f'(whole {ratio} - {count} {count})'),
+                            ('baseline', f'(single {ratio} + 00000000 {register:08x})'),
+                            ('project', f'(single {ratio} - {register:08x} {register:08x})')):
+            lines += [f'(source 0 {side} (combined) (loss 0) {meter})', '(report)']
+    return joined(lines)
+
+
+def products_that_wrap() -> bytes:
+    """Counts of up to 18 digits that by their ratio are just beyond a multiple of 2^32 or 2^64."""
+    lines = ['(grid 1000000 hydro)']
+    for ratio, bits, times in product((2, 3, 19, 40, 4_096, 9_999, RATIO_LIMIT), (32, 64),
+                                      (1, 2, 500, 9_999)):
+        count = -(-times * 2**bits // ratio)
+        if count <= LARGEST:
+            lines += [f'(source 0 project (combined) (loss 0) (whole {ratio} + 0 {count}))',
+                      '(report)']
+    return joined(lines)
+
+
+def ratios_and_signs() -> bytes:
+    """Readings that are not whole Wh, by each ratio and sign and on each side, beside a count
+    that keeps E from 0 to its limit; 1 g a Wh."""
+    lines = ['(grid 1000000 hydro)']
+    for ratio, sign, side in product((1, 2, 40, 780, 781, 9_999, RATIO_LIMIT), '+-',
+                                     reference.SIDES):
+        for readings in ('00000001 00000002', '3a800000 42f6e979', '42f6e979 42f6e97a',
+                         '3a83126f 3f800001'):
+            lines += [f'(source 0 {side} (combined) (loss 0) (single {ratio} {sign} {readings})'
+                      ' (whole 3 + 0 2000000000))', '(report)']
     return joined(lines)
 
 
@@ -415,6 +497,13 @@ FIELDS = (
     ('(source 0 project (combined) (loss 0) (whole + {} 100000000000))', 100_000_000_000),
     ('(source 0 baseline (combined) (loss 0) (whole + 0 {}) (whole + 0 1))', 99_999_999_999),
     ('(source 0 baseline (combined) (loss 0) (whole + 0 {}) (whole - 0 5))', 5),
+    ('(source 0 project (combined) (loss 0) (whole {} + 0 1))', 1),
+    ('(source 0 project (combined) (loss 0) (whole {} + 0 1))', RATIO_LIMIT),
+    ('(source 0 baseline (combined) (loss 0) (whole + 0 1) (single {} - 00000000 00000000))',
+     RATIO_LIMIT),
+    ('(source 0 project (combined) (loss 0) (whole 10000 + 0 {}))', 10_000_000),
+    ('(source 0 project (combined) (loss 0) (whole 3 + {} 33333333333))', 33_333_333_333),
+    ('(source 0 baseline (combined) (loss 0) (whole 40 + 0 {}) (whole 2 - 0 20))', 1),
     ('(drop source {})', 31), ('(drop plant {})', 7))
 
 
@@ -430,6 +519,8 @@ NUMBERED = ('(grid 1000000 hydro)', '(grid margins 1000001 500000 40 60 thermal)
             '(source 31 project (captive 3) (none) (whole + 1000 500000))',
             '(source 1 baseline (either 3) (loss 1000) (whole + 0 90000) (whole - 200 300))',
             '(source 2 leakage (combined) (default20)' + 4 * ' (whole + 30 40000)' + ')',
+            '(source 3 project (combined) (loss 0) (whole 40 + 9 25000) (whole 3 - 20 500))',
+            '(source 4 baseline (captivedefault) (none) (single 60 + 3f800000 42f6e979))',
             '(drop source 30)', '(drop plant 6)')
 # Around the largest values of narrow fields, and of the most digits, or one too many.
 WIDE = (*(wrap + off for wrap in WRAPS for off in (-1, 0, 1, 5)), 10**17, LARGEST - 1,
@@ -476,7 +567,8 @@ def alone_at_zero() -> bytes:
 
 def hand_worked() -> list[bytes]:
     return [joined(line for line, _ in pairs)
-            for lists in (margins.LISTS, fuels.LISTS, sites.LISTS) for pairs in lists.values()]
+            for lists in (margins.LISTS, fuels.LISTS, sites.LISTS, ratios.LISTS)
+            for pairs in lists.values()]
 
 
 def margins_and_weights() -> bytes:
@@ -582,8 +674,8 @@ def counts() -> bytes:
     """Any count of fuel lines or meters is a form, up to the length of a line."""
     lines = ['(plant 0 0 1000' + n * fuel + ')'
              for fuel in (' (fuel 1 1 1)', ' (mass 1 1)', ' (volume 1 1 1)') for n in range(23)]
-    lines += ['(source 0 project (combined) (loss 0)' + n * ' (whole + 0 1)' + ')'
-              for n in range(17)]
+    lines += ['(source 0 project (combined) (loss 0)' + n * meter + ')'
+              for meter in (' (whole + 0 1)', ' (whole 9 + 0 1)') for n in range(17)]
     lines += ['(source 0 project (combined) (loss 0)' + n * ' (single - 00000000 00000000)' + ')'
               for n in range(9)]
     return joined(lines)
@@ -615,14 +707,16 @@ def odd_bytes() -> bytes:
 
 
 def source_precedence() -> bytes:
-    """Each set of defects in a source entry: the first number of the set answers."""
+    """Each set of defects in a source entry: the first number of the set answers. For 2 there
+    are too many meters, or a ratio out of range."""
     lines = []
-    for defects in range(64):
+    for defects, unfit in product(range(64), (4 * ['(whole + 5 5)'], ['(whole 10001 + 5 5)'],
+                                              ['(single 0 - 3f800000 3f800000)'])):
         has = [defects >> bit & 1 for bit in range(6)]
         meters = ['(whole - 0 1)' if has[5] else '(whole + 0 1)']
         meters += ['(single + 3f800001 3f800000)'] * has[3]
         meters += ['(single - 00000000 7fc00000)'] * has[2]
-        meters += ['(whole + 5 5)'] * 4 * has[1]
+        meters += unfit * has[1]
         loss = 'none' if has[4] else 'loss 1'
         lines.append(f'(source {31 + has[0]} project (combined) ({loss}) {" ".join(meters)})')
         lines.append(f'(source 0 project (captive {3 + has[0]})'
@@ -651,6 +745,8 @@ SAMPLES = ('(grid 812400 thermal)', '(grid 1 hydro)', '(grid margins 812401 20 1
            '(source 10 project (captive 1) (none) (whole + 10 11))',
            '(source 0 leakage (either 1) (loss 20) (single - 3f800000 4cbebc20))',
            '(source 0 baseline (griddefault) (default3) (whole - 0 0))',
+           '(source 3 project (captivedefault) (none) (whole 40 + 5 6)'
+           ' (single 9 - 3f800000 3f800001))',
            '(source 0 baseline (captivedefault) (default20))', '(drop source 0)',
            '(drop plant 0)', '(report)')
 
@@ -683,10 +779,11 @@ def sizes() -> list[bytes]:
 def boundary_inputs() -> list[bytes]:
     return [
         listing(), listing()[:-1], listing().replace(b'\n', b'\r\n'), *sizes(),
-        *(every_exponent(sign, side, readings) for sign in (0, 1)
-          for side in ('project', 'baseline')
-          for readings in ('00000000 {}', '{} 4cbebc20')),
-        registers_at_rest(), register_pairs(), limits(), *hand_worked(),
+        *(every_exponent(sign, side, meter) for sign in (0, 1) for side in ('project', 'baseline')
+          for meter in ('+ 00000000 {}', '+ {} 4cbebc20', '10000 + 00000000 {}',
+                        '7 + {} 4b59fb92')),
+        registers_at_rest(), register_pairs(), limits(), *hand_worked(), ratios_at_the_limit(),
+        products_that_wrap(), ratios_and_signs(),
         margins_and_weights(), means_by_captive(), largest_means(), generation_limits(),
         parts_of_milligrams(), mixed_kinds(), alone_at_zero(), comparisons(),
         source_precedence(), report_precedence(), largest_report(), counts(),
@@ -793,10 +890,92 @@ def refused_aside(ledger: reference.Ledger) -> set[tuple]:
 
 REFUSED_ASIDE = {(9, UNNAMED), (10, UNNAMED), (10, OTHER_WAY)}
 
-# The answers that lines with these words should meet.
-ANSWERS_TO = {b'margins': {b'ok', b'refused 2', b'refused 14', b'refused 15'},
-              b'(mass': {b'ok', b'refused 1', b'refused 2', b'refused 14'},
-              b'(volume': {b'ok', b'refused 1', b'refused 2', b'refused 14'}}
+
+def by_ratio(holds):
+    """Whether it holds of a meter with a ratio other than 1."""
+    return lambda meters: any(m.ratio != 1 and holds(m) for m in meters)
+
+
+def is_beyond(meter: Meter, value: int) -> bool:
+    exact = reference.exact_watt_hours(meter.kind, value, meter.ratio)
+    return exact is not None and exact > READING_LIMIT
+
+
+def at_limit(kind: str):
+    """With a reading of this kind of which the next one is beyond the limit."""
+    return by_ratio(lambda m: m.kind == kind and any(
+        not is_beyond(m, value) and is_beyond(m, value + 1) for value in (m.first, m.last)))
+
+
+def next_beyond(kind: str):
+    """With a reading of this kind of which the one before is not beyond the limit."""
+    return by_ratio(lambda m: m.kind == kind and any(
+        is_beyond(m, value) and not is_beyond(m, value - 1) for value in (m.first, m.last)))
+
+
+def beside_refused(meters: list[Meter]) -> bool:
+    """A ratio out of range, and another meter that would be refused 3."""
+    fit = [m for m in meters if not reference.ratio_refused(m.ratio)]
+    return len(fit) < len(meters) and any(
+        reference.reading_refused(m.kind, value, m.ratio)
+        for m in fit for value in (m.first, m.last))
+
+
+def at_rest_on_a_fraction(meters: list[Meter]) -> bool:
+    return len(meters) == 1 and meters[0].ratio > 1 and meters[0].first == meters[0].last and (
+        meters[0].exact_first.denominator > 1)
+
+
+# What source entries meet by the ratios of their meters: the answer, and what holds of them.
+RATIO_CASES = {
+    '2 to 9,999': (reference.OK, by_ratio(lambda m: m.ratio < RATIO_LIMIT)),
+    '10,000': (reference.OK, by_ratio(lambda m: m.ratio == RATIO_LIMIT)),
+    'beside none': (reference.OK, lambda meters: {1} < {m.ratio for m in meters}),
+    '0': (2, by_ratio(lambda m: m.ratio == 0)),
+    '10,001': (2, by_ratio(lambda m: m.ratio == RATIO_LIMIT + 1)),
+    '65,535': (2, by_ratio(lambda m: m.ratio == 65_535)),
+    'out of range beside 3': (2, beside_refused),
+    'a count at the limit': (reference.OK, at_limit('whole')),
+    'a register at the limit': (reference.OK, at_limit('single')),
+    'a count beyond': (3, next_beyond('whole')),
+    'a register beyond': (3, next_beyond('single')),
+    'beyond 64 bits': (3, by_ratio(
+        lambda m: m.kind == 'whole' and m.ratio * max(m.first, m.last) >= 2**64)),
+    'running back': (4, by_ratio(lambda m: m.exact_last < m.exact_first)),
+    'at rest on a fraction': (6, at_rest_on_a_fraction)}
+# Of ratios that a text may hold and 16 bits do not.
+WIDE_RATIO_CASES = {
+    '65,536': (2, by_ratio(lambda m: m.ratio == 65_536)),
+    'in range by 16 bits': (2, by_ratio(
+        lambda m: m.ratio >= 2**16 and 1 <= m.ratio % 2**16 <= RATIO_LIMIT)),
+    '18 digits': (2, by_ratio(lambda m: m.ratio == LARGEST))}
+EVERY_RATIO_CASE = RATIO_CASES | WIDE_RATIO_CASES
+
+
+def ratio_cases(meters: list[Meter], answer, cases: dict) -> set[str]:
+    return {name for name, (due, holds) in cases.items() if answer == due and holds(meters)}
+
+
+def meters_of(line: bytes) -> list[Meter]:
+    """Those of a line that is a form."""
+    return [reference.read_meter(*parts) for parts in reference.METER_PARTS.findall(line)]
+
+
+def fractions_by_ratio(ledger: reference.Ledger) -> set[tuple]:
+    """Side and sign of the meters that by a ratio have a reading which is no whole Wh."""
+    return {(source.side, m.sign) for source in ledger.sources.values() for m in source.meters
+            if m.ratio > 1 and not m.exact_first.denominator == m.exact_last.denominator == 1}
+
+
+FRACTIONS_BY_RATIO = 6  # 3 sides by 2 signs
+
+# The answers that lines with these parts should meet; a ratio written as 1 is one of them.
+OF_A_SOURCE = {b'ok', *(b'refused %d' % number for number in (1, 2, 3, 4, 5, 6, 14))}
+ANSWERS_TO = {rb'margins': {b'ok', b'refused 2', b'refused 14', b'refused 15'},
+              rb'\(mass': {b'ok', b'refused 1', b'refused 2', b'refused 14'},
+              rb'\(volume': {b'ok', b'refused 1', b'refused 2', b'refused 14'},
+              rb'\((whole|single) [0-9]+ [+-]': OF_A_SOURCE,
+              rb'\((whole|single) 1 [+-]': OF_A_SOURCE}
 
 
 class Met:
@@ -810,7 +989,9 @@ class Met:
         self.means = set()
         self.lines = set()  # that decide a captive factor
         self.aside = Counter()  # reports given beside such a refusal of a site
-        self.answers_to = {word: set() for word in ANSWERS_TO}
+        self.ratios = Counter()  # source entries by what they meet
+        self.fractions = set()  # readings by a ratio that are no whole Wh
+        self.answers_to = {part: set() for part in ANSWERS_TO}
         self.most_sources = 0
 
     def run(self, data: bytes) -> bytes:
@@ -823,12 +1004,18 @@ class Met:
         self.reports += sum(refusals[n] for n in range(8, 14)) + answers.count(b'reduction')
         self.mostly_malformed += 3 * refusals[14] >= len(answers) > 0
         for line, answer in zip(reference.lines_of(data), answers):
-            for word in ANSWERS_TO:
-                if word in line:
-                    self.answers_to[word].add(answer)
+            self.line_answered(line, answer)
         self.sign_and_exponent |= {
             int(register, 16) >> 23 for register in re.findall(rb'\b[0-9a-f]{8}\b', data)}
         return output
+
+    def line_answered(self, line: bytes, answer: bytes):
+        for part, answers in self.answers_to.items():
+            if re.search(part, line):
+                answers.add(answer)
+        if line.startswith(b'(source ') and answer != b'refused 14':
+            number = reference.OK if answer == b'ok' else int(answer.split()[1])
+            self.ratios.update(ratio_cases(meters_of(line), number, EVERY_RATIO_CASE))
 
     def report_given(self, ledger: reference.Ledger, report: reference.Report):
         reference.check_demand_3(ledger, report)
@@ -838,6 +1025,7 @@ class Met:
         self.means |= means_of(ledger, report)
         self.lines |= deciding_lines(ledger, report)
         self.aside.update(refused_aside(ledger))
+        self.fractions |= fractions_by_ratio(ledger)
 
     def show(self, name: str):
         refusals = ', '.join(f'{n}: {self.refusals[n]}' for n in sorted(self.refusals))
@@ -850,6 +1038,8 @@ class Met:
         aside = ', '.join(f'{number} {how}: {self.aside[number, how]}'
                           for number, how in sorted(REFUSED_ASIDE))
         print(f'  reports given with a site refused {aside}')
+        cases = ', '.join(f'{name}: {self.ratios[name]}' for name in EVERY_RATIO_CASE)
+        print(f'  source entries by ratios, {cases}')
 
 
 def missing(at_random: Met, by_hand: Met) -> list[str]:
@@ -862,9 +1052,16 @@ def missing(at_random: Met, by_hand: Met) -> list[str]:
         'a third of the lines malformed in a tenth of the inputs':
             at_random.mostly_malformed * 10 >= at_random.inputs,
         'every kind of source reported': len(at_random.kinds) == SOURCE_KINDS,
-        'every answer to margins and to lines by carbon, at random':
+        'every answer to margins, lines by carbon and ratios, at random':
             at_random.answers_to == ANSWERS_TO,
-        'every answer to margins and to lines by carbon, by hand': by_hand.answers_to == ANSWERS_TO,
+        'every answer to margins, lines by carbon and ratios, by hand':
+            by_hand.answers_to == ANSWERS_TO,
+        'every case of ratios, at random': set(at_random.ratios) == set(EVERY_RATIO_CASE),
+        'every case of ratios, by hand': set(by_hand.ratios) == set(EVERY_RATIO_CASE),
+        'readings by a ratio that are no whole Wh, at random':
+            len(at_random.fractions) == FRACTIONS_BY_RATIO,
+        'readings by a ratio that are no whole Wh, by hand':
+            len(by_hand.fractions) == FRACTIONS_BY_RATIO,
         'every kind of source by a mean, at random': len(at_random.means) == SOURCE_MEANS,
         'every kind of source by a mean, by hand': len(by_hand.means) == SOURCE_MEANS,
         'every kind of fuel line decides a factor, at random':

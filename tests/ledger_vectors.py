@@ -1,7 +1,7 @@
 """Lists of calls on the ledger, with the answers of the reference.
 
 vectors.py writes and checks them with the other vectors. A call is a vector of
-24 fields after its kind: its operation and its arguments, as the module calls.rt
+28 fields after its kind: its operation and its arguments, as the module calls.rt
 of the program `vectors` reads them. Unlike a line of text, a call always holds
 four fuel lines or meters beside their count, and its numbers go up to the last
 ones of their types.
@@ -13,24 +13,27 @@ margin rounded up and rounded down, whatever they are.
 
 A fuel line has four arguments: its kind, energy (0), mass (1) or volume (2), and three
 figures, Q, V and C, or Q, W and one that is not read, or Q, density and W. So a plant
-entry has 20 arguments, and a plant record that is stored 21. The widest call is a
-source entry, with 23.
+entry has 20 arguments, and a plant record that is stored 21. A meter has five: its ratio,
+sign, kind, first and last reading. The widest call is a source entry, with 27.
 """
 
 from collections import Counter
 from itertools import cycle, product
 
+import ratios
 import reference
 import sites
-from generate import (DECIDING_LINES, EQUAL_ENERGIES, FIRST_WEIGHTS, FUEL_LIMITS,
-                      LARGEST_FACTORS, LARGEST_LINES, LAST_REGISTER, LITTLE_ABOVE, LITTLE_BELOW,
-                      PARTS_OF_MILLIGRAMS, REFUSED_ASIDE, SOURCE_KINDS, SOURCE_MEANS,
-                      SPECIAL_REGISTERS, SUPPLIES, UNNAMED, captive_factors, deciding_lines,
-                      kinds_of, means_of, refused_aside, with_rest)
+from generate import (DECIDING_LINES, EQUAL_ENERGIES, EQUAL_RATIOS, FIRST_WEIGHTS,
+                      FRACTIONS_BY_RATIO, FUEL_LIMITS, LARGEST_FACTORS, LARGEST_LINES,
+                      LAST_REGISTER, LITTLE_ABOVE, LITTLE_BELOW, PARTS_OF_MILLIGRAMS, RATIO_CASES,
+                      RATIO_LIMIT, REFUSED_ASIDE, SOURCE_KINDS, SOURCE_MEANS, SPECIAL_REGISTERS,
+                      SUPPLIES, UNNAMED, captive_factors, deciding_lines, fractions_by_ratio,
+                      kinds_of, last_register, means_of, meters_of, ratio_cases, refused_aside,
+                      with_rest)
 from reference import (SIDES, EnergyLine, FuelLine, Loss, Margins, MassLine, Meter, Plant, Source,
                        Supply, VolumeLine)
 
-FIELDS = 24
+FIELDS = 28
 (NEW, GRID, PLANT, SOURCE, DROP_PLANT, DROP_SOURCE, REPORT,
  STORED_GRID, STORED_PLANT, STORED_SOURCE) = range(10)
 
@@ -50,7 +53,8 @@ FACTOR_LIMIT = reference.FACTOR_LIMIT
 # What fills the places beyond the count: refused where it is read.
 NO_LINES = (EnergyLine(LAST_U32, 0, LAST_U32), MassLine(LAST_U32, LAST_U32),
             VolumeLine(LAST_U32, LAST_U32, LAST_U32), EnergyLine(0, 0, 0))
-NO_METERS = 4 * (Meter('single', '-', 0x7FC00000, LAST_U32),)
+NO_METERS = tuple(Meter('single', '-', 0x7FC00000, LAST_U32, ratio)
+                  for ratio in (0, RATIO_LIMIT + 1, LAST_U16, 1))
 # The figure of a line by mass that is not read: within and beyond each limit of the others.
 UNREAD = (LAST_U32, 0, 1, 2_001, 10_001)
 
@@ -71,8 +75,8 @@ def measured(loss: int) -> Loss:
     return Loss('loss', loss)
 
 
-def whole(last: int, first: int = 0, sign: str = '+') -> Meter:
-    return Meter('whole', sign, first, last)
+def whole(last: int, first: int = 0, sign: str = '+', ratio: int = 1) -> Meter:
+    return Meter('whole', sign, first, last, ratio)
 
 
 def placed(items: tuple, fillers: tuple) -> list:
@@ -106,7 +110,7 @@ def source_fields(number: int, source: Source) -> tuple[int, ...]:
 
 def meter_fields(meters: list[Meter]) -> list[int]:
     return [field for m in meters
-            for field in (SIGNS.index(m.sign), KINDS.index(m.kind), m.first, m.last)]
+            for field in (m.ratio, SIGNS.index(m.sign), KINDS.index(m.kind), m.first, m.last)]
 
 
 class Calls:
@@ -123,6 +127,8 @@ class Calls:
         self.means = set()
         self.lines = set()  # that decide a captive factor
         self.aside = set()  # refusals of sites that reports given do not show
+        self.ratios = set()  # what source entries meet
+        self.fractions = set()  # readings by a ratio that are no whole Wh
         self.unread = cycle(UNREAD)
         self.new()
 
@@ -167,8 +173,9 @@ class Calls:
         source = Source(side, supply, loss, counted(meters, count, NO_METERS))
         fields = (*source_fields(number, source), count,
                   *meter_fields(placed(meters, NO_METERS)))
-        return self.add_entry((SOURCE, *fields), ('source', number),
-                              self.ledger.enter_source(number, source))
+        answer = self.ledger.enter_source(number, source)
+        self.ratios |= ratio_cases(source.meters, answer, RATIO_CASES)
+        return self.add_entry((SOURCE, *fields), ('source', number), answer)
 
     def drop_plant(self, number: int):
         return self.add_entry((DROP_PLANT, number), ('plant', number),
@@ -194,6 +201,7 @@ class Calls:
             self.means |= means_of(self.ledger, answer)
             self.lines |= deciding_lines(self.ledger, answer)
             self.aside |= refused_aside(self.ledger)
+            self.fractions |= fractions_by_ratio(self.ledger)
         return self.add(fields, answer)
 
     # Lines of text, whose reader calls these as it calls a ledger
@@ -434,6 +442,28 @@ def registers(calls: Calls):
                 calls.report()
 
 
+def ratios_of_meters(calls: Calls):
+    """In range and out of it, at each place, beyond the count too; then what the products are
+    limited to, and readings that are no whole Wh, on each side and of each sign; 1 g a Wh."""
+    calls.grid(1_000_000)
+    for ratio in (0, 1, 2, *around(RATIO_LIMIT, LAST_U16), 32_768):
+        for at, count in product(range(4), (1, 2, 4)):
+            meters = [whole(7, ratio=2 + place) for place in range(4)]
+            meters[at] = whole(9, 3, ratio=ratio)
+            calls.source(0, 'project', COMBINED, measured(0), *meters, count=count)
+            calls.report()
+    for ratio, off in product((1, 2, 3, 40, 9_697, RATIO_LIMIT), (-1, 0, 1)):
+        count, register = LIMIT // ratio + off, last_register(ratio) + off
+        for side, meter in product(('project', 'baseline'), (
+                whole(count, ratio=ratio), Meter('single', '+', 0, register, ratio))):
+            calls.source(0, side, COMBINED, measured(0), meter)
+            calls.report()
+    for side, sign, ratio in product(SIDES, SIGNS, (1, 40, 781, RATIO_LIMIT)):
+        calls.source(0, side, COMBINED, measured(0), whole(2_000_000_000, ratio=3),
+                     Meter('single', sign, 0x42F6E979, 0x42F6E97A, ratio))
+        calls.report()
+
+
 def every_supply_and_loss(calls: Calls):
     """Alone, then beside a source of the other direction. Of the two sites one is above
     the combined margin and one below."""
@@ -546,6 +576,9 @@ def source_precedence(calls: Calls):
                      count=count)
         calls.source(0, 'baseline', captive(3 + has[0]), measured(5_000 + has[1]) if has[4]
                      else NONE, *meters, count=count)
+        unfit = has[1] * [whole(5, 5, ratio=(0, RATIO_LIMIT + 1, LAST_U16)[defects % 3])]
+        calls.source(31 + has[0], 'leakage', COMBINED, NONE if has[4] else measured(1), *meters,
+                     *unfit)
 
 
 def report_precedence(calls: Calls):
@@ -678,19 +711,29 @@ def damaged_grids(calls: Calls):
     calls.report()
 
 
-def sites_named(calls: Calls):
-    """The hand-worked lists of lines."""
-    for pairs in sites.LISTS.values():
+def hand_worked(calls: Calls, lists: dict):
+    """Lists of lines. A form with a ratio that 16 bits do not hold is no call."""
+    for pairs in lists.values():
         calls.new()
-        for line, _ in pairs:
-            calls.line(line)
+        for line, answer in pairs:
+            if answer != 'refused 14' and all(
+                    m.ratio <= LAST_U16 for m in meters_of(line.encode())):
+                calls.line(line)
+
+
+def sites_named(calls: Calls):
+    hand_worked(calls, sites.LISTS)
+
+
+def ratios_listed(calls: Calls):
+    hand_worked(calls, ratios.LISTS)
 
 
 BY_HAND = (listing, grid_and_plant_limits, fuel_limits, parts_of_milligrams, unread_figures,
            margins_limits, means, marks_of_margins, source_limits, counts, registers,
-           every_supply_and_loss, generation_limits, alone_at_zero, comparisons,
+           ratios_of_meters, every_supply_and_loss, generation_limits, alone_at_zero, comparisons,
            either_both_ways, largest_report, source_precedence, report_precedence, replacements,
-           drops, damaged_plants, damaged_sources, damaged_grids, sites_named)
+           drops, damaged_plants, damaged_sources, damaged_grids, sites_named, ratios_listed)
 
 
 # 2. Lists at random
@@ -742,34 +785,51 @@ class RandomCalls(Calls):
         fraction = self.pick((0, 1, 0x7FFFFF, self.numbers.below(0x800000)))
         return self.numbers.below(512) << 23 | fraction
 
-    def single_readings(self, sign: str) -> tuple[int, int]:
+    def single_readings(self, sign: str, ratio: int) -> tuple[int, int]:
         """A - meter mostly moves little, so that E is mostly not below 0."""
+        highest = last_register(ratio)
         if self.chance(self.out_of_range):
-            return self.any_register(), self.any_register()
+            return self.pick(((self.any_register(), self.any_register()), (0, highest + 1)))
         if self.chance(20):
             first = self.pick((0, 0x80000000))
-            return first, self.pick((first, self.numbers.below(LAST_REGISTER + 1)))
+            return first, self.pick((first, self.numbers.below(highest + 1)))
         if self.chance(60):  # 0.5 Wh to 500 MWh
-            first = 0x3A000000 + self.numbers.below(0x0F000000)
+            first = min(0x3A000000 + self.numbers.below(0x0F000000), highest)
         else:
-            first = self.numbers.below(LAST_REGISTER + 1)
+            first = self.numbers.below(highest + 1)
         far = 0x02000000 if sign == '+' else 0x100
         moved = self.pick((0, 1, 2, *3 * [self.numbers.below(far)]))
-        return first, min(first + moved, LAST_REGISTER)
+        return first, min(first + moved, highest)
 
-    def whole_readings(self, sign: str) -> tuple[int, int]:
+    def whole_readings(self, sign: str, ratio: int) -> tuple[int, int]:
         if self.equal_energies:
             first = self.pick((0, 7))
-            return first, first + self.pick(EQUAL_ENERGIES)
-        first, last = self.number(LIMIT, LAST_U64), self.number(LIMIT, LAST_U64)
+            return first, first + self.pick(
+                [energy // ratio for energy in EQUAL_ENERGIES if energy % ratio == 0])
+        first, last = (self.number(LIMIT // ratio, LAST_U64) for _ in range(2))
         if sign == '-' and self.chance(90):
             return first, min(first + self.numbers.below(10), LAST_U64)
         return (first, last) if self.chance(5) else (min(first, last), max(first, last))
 
+    def ratio(self) -> int:
+        if self.chance(50):
+            return 1
+        if self.equal_energies:
+            return self.pick(EQUAL_RATIOS)
+        return self.pick((2, 3 + self.numbers.below(10), 1 + self.numbers.below(RATIO_LIMIT),
+                          RATIO_LIMIT - 1, RATIO_LIMIT))
+
     def meter(self, sign: str) -> Meter:
+        """At times by a ratio out of range."""
+        ratio = self.ratio()
         if self.chance(50) and not self.equal_energies:
-            return Meter('single', sign, *self.single_readings(sign))
-        return Meter('whole', sign, *self.whole_readings(sign))
+            meter = Meter('single', sign, *self.single_readings(sign, ratio), ratio)
+        else:
+            meter = Meter('whole', sign, *self.whole_readings(sign, ratio), ratio)
+        if self.chance(self.out_of_range):
+            return meter._replace(ratio=self.pick(
+                (0, RATIO_LIMIT + 1, LAST_U16, self.above(RATIO_LIMIT, LAST_U16))))
+        return meter
 
     def meters(self) -> tuple[list[Meter], int]:
         """Four meters, and how many of them count."""
@@ -936,6 +996,9 @@ def check_met(by_hand: Calls, at_random: Calls):
             {kind for kind, _ in calls.lines} == {*FUEL_KINDS})
         met[f'sites that no source names are refused 9 and 10 {name}'] = (
             {(9, UNNAMED), (10, UNNAMED)} <= calls.aside)
+        met[f'every case of ratios is met {name}'] = calls.ratios == set(RATIO_CASES)
+        met[f'readings by a ratio are no whole Wh on each side and of each sign {name}'] = (
+            len(calls.fractions) == FRACTIONS_BY_RATIO)
         met[f'damage is met {name}'] = calls.damages > 0
         met[f'a third of the reports {name} is given'] = calls.given * 3 >= calls.reports
     missing = [what for what, holds in met.items() if not holds]

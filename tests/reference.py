@@ -1,4 +1,4 @@
-"""A second implementation of document 01 with wishes 1 and 2 of document 02, to compare
+"""A second implementation of document 01 with wishes 1 to 4 of document 02, to compare
 the programs tally and panel with.
 
 Written from these papers alone, with an exact fraction wherever they have an
@@ -41,9 +41,9 @@ def rounds_up(side: str) -> bool:
 
 # 2. Readings
 
-# "whole (watt-hours, 0 to 100,000,000,000)"
-# "single (an IEEE 754 binary32 register in kWh, 0 to 100,000,000)"
+# "the limit of 100,000,000,000 Wh is on the product" of a reading and its meter's ratio.
 READING_LIMIT_WH = 100_000_000_000
+RATIO_LIMIT = 10_000
 
 
 def register_value(register: int) -> Fraction | None:
@@ -59,26 +59,40 @@ def register_value(register: int) -> Fraction | None:
 
 
 @functools.cache
-def exact_watt_hours(kind: str, value: int) -> Fraction | None:
-    """A reading's exact value: "1,000 times the register" for a single."""
+def watt_hours_read(kind: str, value: int) -> Fraction | None:
+    """What a whole reading counts, "1,000 times the register" of a single."""
     if kind == 'whole':
         return Fraction(value)
     kilowatt_hours = register_value(value)
     return None if kilowatt_hours is None else 1000 * kilowatt_hours
 
 
-def reading_refused(kind: str, value: int) -> bool:
+@functools.cache
+def exact_watt_hours(kind: str, value: int, ratio: int) -> Fraction | None:
+    # "A reading's exact value is multiplied by it before rounding"
+    read = watt_hours_read(kind, value)
+    return None if read is None else read * ratio
+
+
+def ratio_refused(ratio: int) -> bool:
+    # "A ratio outside its range is refused 2."
+    return not 1 <= ratio <= RATIO_LIMIT
+
+
+def reading_refused(kind: str, value: int, ratio: int) -> bool:
     """3: "above its limit, a register below zero, infinite or not a number"."""
-    exact = exact_watt_hours(kind, value)
+    read = watt_hours_read(kind, value)
     # "negative zero is zero": its exact value is plain 0
-    return exact is None or not 0 <= exact <= READING_LIMIT_WH
+    return read is None or read < 0 or read * ratio > READING_LIMIT_WH
 
 
 @functools.cache
-def reading_watt_hours(kind: str, value: int, up: bool) -> int | Refused:
-    if reading_refused(kind, value):
+def reading_watt_hours(kind: str, value: int, ratio: int, up: bool) -> int | Refused:
+    if ratio_refused(ratio):
+        return Refused(2)
+    if reading_refused(kind, value, ratio):
         return Refused(3)
-    return rounded(exact_watt_hours(kind, value), up)
+    return rounded(exact_watt_hours(kind, value, ratio), up)
 
 
 # 3. Meters and the energy of a source
@@ -92,6 +106,15 @@ class Meter(NamedTuple):
     sign: str  # '+' or '-'
     first: int
     last: int
+    ratio: int = 1  # "A meter gains a ratio from 1 to 10,000"
+
+    @property
+    def exact_first(self) -> Fraction | None:
+        return exact_watt_hours(self.kind, self.first, self.ratio)
+
+    @property
+    def exact_last(self) -> Fraction | None:
+        return exact_watt_hours(self.kind, self.last, self.ratio)
 
 
 def judge_meters(side: str, meters: list[Meter]) -> int | tuple[int, int]:
@@ -99,10 +122,11 @@ def judge_meters(side: str, meters: list[Meter]) -> int | tuple[int, int]:
     otherwise the watt-hours that add and those that take."""
     if not 1 <= len(meters) <= 4:
         return 2
-    if any(reading_refused(m.kind, r) for m in meters for r in (m.first, m.last)):
+    if any(ratio_refused(m.ratio) for m in meters):
+        return 2
+    if any(reading_refused(m.kind, r, m.ratio) for m in meters for r in (m.first, m.last)):
         return 3
-    if any(exact_watt_hours(m.kind, m.last) < exact_watt_hours(m.kind, m.first)
-           for m in meters):
+    if any(m.exact_last < m.exact_first for m in meters):
         return 4
     return meter_sums(rounds_up(side), meters)
 
@@ -112,8 +136,8 @@ def meter_readings(up: bool, meter: Meter) -> tuple[int, int]:
     first down, and a - meter takes last down and first up"; for baseline "each is the
     opposite"."""
     last_up = up if meter.sign == '+' else not up
-    return (reading_watt_hours(meter.kind, meter.first, not last_up),
-            reading_watt_hours(meter.kind, meter.last, last_up))
+    return (reading_watt_hours(meter.kind, meter.first, meter.ratio, not last_up),
+            reading_watt_hours(meter.kind, meter.last, meter.ratio, last_up))
 
 
 def meter_sums(up: bool, meters: list[Meter]) -> tuple[int, int]:
@@ -135,8 +159,7 @@ def exact_energy(meters: list[Meter]) -> Fraction:
     """e: "the sum of the + meters less the - meters", each last minus first."""
     total = Fraction(0)
     for meter in meters:
-        moved = (exact_watt_hours(meter.kind, meter.last)
-                 - exact_watt_hours(meter.kind, meter.first))
+        moved = meter.exact_last - meter.exact_first
         total += moved if meter.sign == '+' else -moved
     return total
 
@@ -675,17 +698,18 @@ MARGINS_FORM = form(rb'\(grid margins (<number>) (<number>) (<number>) (<number>
 PLANT_FORM = form(rb'\(plant (<number>) (<number>) (<number>)'
                   rb'((?: \((?:fuel <number> <number> <number>|mass <number> <number>'
                   rb'|volume <number> <number> <number>)\))*)\)')
+# A ratio is "written before its sign".
 SOURCE_FORM = form(rb'\(source (<number>) (project|leakage|baseline)'
                    rb' \((combined|griddefault|captive <number>|captivedefault|either <number>)\)'
                    rb' \((loss <number>|default20|default3|none)\)'
-                   rb'((?: \((?:whole [+-] <number> <number>'
-                   rb'|single [+-] <register> <register>)\))*)\)')
+                   rb'((?: \((?:whole (?:<number> )?[+-] <number> <number>'
+                   rb'|single (?:<number> )?[+-] <register> <register>)\))*)\)')
 DROP_FORM = form(rb'\(drop (source|plant) (<number>)\)')
 REPORT_FORM = form(rb'\(report\)')
 
 # These take a form apart that one of the patterns above has already passed.
 FUEL_PARTS = re.compile(rb'\((fuel|mass|volume) ([0-9 ]+)\)')
-METER_PARTS = re.compile(rb'\((whole|single) ([+-]) ([0-9a-f]+) ([0-9a-f]+)\)')
+METER_PARTS = re.compile(rb'\((whole|single) (?:([0-9]+) )?([+-]) ([0-9a-f]+) ([0-9a-f]+)\)')
 
 
 def read_named(part: bytes) -> tuple:
@@ -701,9 +725,11 @@ def read_fuel_line(word: bytes, figures: bytes) -> FuelLine:
     return FUEL_KINDS[word](*map(int, figures.split(b' ')))
 
 
-def read_meter(kind: bytes, sign: bytes, first: bytes, last: bytes) -> Meter:
+def read_meter(kind: bytes, ratio: bytes, sign: bytes, first: bytes, last: bytes) -> Meter:
     base = 10 if kind == b'whole' else 16
-    return Meter(kind.decode(), sign.decode(), int(first, base), int(last, base))
+    # "left out, it is 1"
+    return Meter(kind.decode(), sign.decode(), int(first, base), int(last, base),
+                 int(ratio or b'1'))
 
 
 def grid_call(ledger: Ledger, parts: re.Match):

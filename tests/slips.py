@@ -29,6 +29,27 @@ ASK_SITE = 'captive_factor(&sites[s->site], up, factor)'
 NO_GRID = 'if (on_grid(s->supply) && !l->grid.stands) return 8;'
 ADD_UP = 'add_up(l, &margins, &grid, sites);'
 NO_PLANT = 'if (!p->stands) continue;'
+READ_SINGLE = 'return register_watt_hours(value, m->ratio, up, watt_hours);'
+PRODUCT = 'u64 product = ratio * 8000 * digits;'
+LIMIT_OF_PRODUCT = 'if (down + !whole > WATT_HOURS) return 3;'
+ROUND_PRODUCT = '*watt_hours = down + (up && !whole);'
+LIMIT_OF_COUNT = 'if (value > WATT_HOURS / m->ratio) return 3;'
+COUNTED = '*watt_hours = value * m->ratio;'
+READ_FIRST = 'if (reading_watt_hours(m, m->first, !last_up, &first)) return 3;'
+MOVED = '*energy += m->minus ? (int64_t)first - (int64_t)last : (int64_t)last - (int64_t)first;'
+RATIO_FITS = 'if (meters[i].ratio < 1 || meters[i].ratio > RATIO) return false;'
+UNFIT_RATIO = ' || !ratios_fit(meters, count)) return 2;'
+NO_RATIO = '*ratio = 1;'
+HAS_RATIO = 'return !is_digit(t) || (read_number(t, ratio) && skip(t, " "));'
+READ_RATIO = 'if (!read_ratio(t, &m->ratio)) return false;'
+READ_SIGN = 'if (!m->minus && !skip(t, "+ ")) return false;'
+
+
+def read_by(last: str, first: str) -> str:
+    """Both readings, each by a ratio of its own."""
+    return (f'struct meter a = *m, b = *m; a.ratio = {last}, b.ratio = {first};'
+            ' if (reading_watt_hours(&a, m->last, last_up, &last)) return 3;'
+            ' if (reading_watt_hours(&b, m->first, !last_up, &first)) return 3;')
 
 
 def refused_by_any_site(condition: str) -> str:
@@ -124,6 +145,114 @@ SLIPS = (
     Slip('a plant without generation passed over', NO_PLANT,
          'if (!p->stands || p->generation == 0) continue;'),
     Slip('a plant that was dropped counted', NO_PLANT, ''),
+    # Ratios: the product
+    Slip('rounded before the ratio', READ_SINGLE,
+         'return register_watt_hours(value, 1, up, watt_hours) || (*watt_hours *= m->ratio)'
+         ' > WATT_HOURS ? 3 : OK;'),
+    Slip('the product to nearest', ROUND_PRODUCT,
+         '*watt_hours = shift == 0 ? down : down + (product >> (shift - 1) & 1);'),
+    Slip('the product always down', ROUND_PRODUCT, '*watt_hours = down;'),
+    Slip('the product always up', ROUND_PRODUCT, '*watt_hours = down + !whole;'),
+    Slip('the product in 32 bits', PRODUCT, 'u64 product = (uint32_t)(ratio * 8000 * digits);'),
+    Slip('the product of a count in 32 bits', COUNTED,
+         '*watt_hours = (uint32_t)(value * m->ratio);'),
+    Slip('the ratio of a register passed over', PRODUCT,
+         '(void)ratio; u64 product = 8000 * digits;'),
+    Slip('the ratio of a count passed over', COUNTED, '*watt_hours = value;'),
+    Slip('the ratio of a - meter passed over', READ_FIRST,
+         READ_FIRST + ' if (m->minus) { ' + read_by('1', '1') + ' }'),
+    Slip('the last reading alone by its ratio', READ_FIRST,
+         READ_FIRST + ' ' + read_by('m->ratio', '1')),
+    Slip('the first reading alone by its ratio', READ_FIRST,
+         READ_FIRST + ' ' + read_by('1', 'm->ratio')),
+    Slip("the first meter's ratio for all", READ_FIRST,
+         READ_FIRST + ' ' + read_by('meters->ratio', 'meters->ratio')),
+    Slip("the last meter's ratio for all", READ_FIRST,
+         READ_FIRST + ' ' + read_by('meters[count - 1].ratio', 'meters[count - 1].ratio')),
+    Slip("the ratio applied to a meter's energy", READ_FIRST,
+         READ_FIRST + ' ' + read_by('1', '1')
+         + ' first *= m->ratio, last *= m->ratio;'),
+    Slip("the ratio applied to the source's energy", READ_FIRST,
+         READ_FIRST + ' ' + read_by('1', '1')
+         + ' if (i == count - 1) { back |= runs_back(m); ' + MOVED
+         + ' *energy *= (int64_t)m->ratio; continue; }'),
+    # Ratios: limits
+    Slip('the limit on the reading', LIMIT_OF_PRODUCT,
+         'if (down + !whole > WATT_HOURS * ratio) return 3;'),
+    Slip('the limit on the count', LIMIT_OF_COUNT, 'if (value > WATT_HOURS) return 3;'),
+    Slip('every count limited as by 10,000', LIMIT_OF_COUNT,
+         'if (value > WATT_HOURS / RATIO || value > WATT_HOURS / m->ratio) return 3;'),
+    Slip('a product at the limit refused', LIMIT_OF_COUNT,
+         'if (value * m->ratio >= WATT_HOURS || value > WATT_HOURS / m->ratio) return 3;'),
+    Slip("a register's product at the limit refused", LIMIT_OF_PRODUCT,
+         'if (down + !whole >= WATT_HOURS) return 3;'),
+    Slip('the product of a count wraps at 64 bits', LIMIT_OF_COUNT,
+         'if (value * m->ratio > WATT_HOURS) return 3;'),
+    Slip('the product of a count limited in 32 bits', LIMIT_OF_COUNT,
+         'if ((uint32_t)value > WATT_HOURS / m->ratio) return 3;'),
+    Slip('4 by the first reading alone by its ratio', 'if (!m->single) return m->last < m->first;',
+         'if (!m->single) return m->last < m->first * m->ratio;'),
+    Slip('a ratio of 0 accepted', RATIO_FITS, 'if (meters[i].ratio > RATIO) return false;'
+         ' else if (meters[i].ratio == 0) ((struct meter *)meters)[i].ratio = 1;'),
+    Slip('a ratio of 1 refused', RATIO_FITS,
+         'if (meters[i].ratio <= 1 || meters[i].ratio > RATIO) return false;'),
+    Slip('a ratio of 10,000 refused', RATIO_FITS,
+         'if (meters[i].ratio < 1 || meters[i].ratio >= RATIO) return false;'),
+    Slip('a ratio of 10,001 accepted', RATIO_FITS,
+         'if (meters[i].ratio < 1 || meters[i].ratio > RATIO + 1) return false;'),
+    Slip('a ratio of 65,535 accepted', RATIO_FITS,
+         'if (meters[i].ratio < 1 || meters[i].ratio > 65535) return false;'),
+    Slip('a ratio narrowed to 8 bits', READ_RATIO, READ_RATIO + ' m->ratio = (uint8_t)m->ratio;'),
+    Slip('65,537 taken as 1', READ_RATIO, READ_RATIO + ' m->ratio = (uint16_t)m->ratio;'),
+    Slip('a ratio narrowed to 32 bits', READ_RATIO,
+         READ_RATIO + ' m->ratio = (uint32_t)m->ratio;'),
+    Slip('a ratio above its range taken as 10,000', READ_RATIO,
+         READ_RATIO + ' if (m->ratio > RATIO) m->ratio = RATIO;'),
+    Slip('the ratio of the first meter alone judged', UNFIT_RATIO,
+         ' || !ratios_fit(meters, 1)) return 2; for (u64 i = 1; i < count; i++)'
+         ' if (meters[i].ratio == 0) ((struct meter *)meters)[i].ratio = 1;'),
+    Slip('the ratios judged before 1', 'if (number >= SOURCES || s.site >= SITES) return 1;',
+         'if (count <= METERS && !ratios_fit(meters, count)) return 2;'
+         ' if (number >= SOURCES || s.site >= SITES) return 1;'),
+    Slip('a ratio judged with the 3 of its meter', UNFIT_RATIO,
+         ') return 2; for (u64 i = 0; i < count; i++) { int64_t moved;'
+         ' if (!ratios_fit(meters + i, 1)) return 2;'
+         ' if (judge_meters(meters + i, 1, true, &moved) == 3) return 3; }'),
+    Slip('the ratios judged after 3 and 4', UNFIT_RATIO,
+         ') return 2; for (u64 i = 0; i < count; i++) { struct meter m = meters[i]; int64_t moved;'
+         ' if (!ratios_fit(&m, 1)) m.ratio = 1; int early = judge_meters(&m, 1, true, &moved);'
+         ' if (early != OK) return early; } if (!ratios_fit(meters, count)) return 2;'),
+    Slip('a ratio outside its range refused 3', UNFIT_RATIO,
+         ') return 2; if (!ratios_fit(meters, count)) return 3;'),
+    Slip('a ratio outside its range refused 14', UNFIT_RATIO,
+         ') return 2; if (!ratios_fit(meters, count)) return 14;'),
+    # Ratios: forms
+    Slip('a ratio that is left out read as 0', NO_RATIO, '*ratio = 0;'),
+    Slip('a ratio kept where it is left out', NO_RATIO,
+         'static u64 kept = 1; if (!is_digit(t)) { *ratio = kept; return true; }'
+         ' if (!read_number(t, ratio) || !skip(t, " ")) return false; kept = *ratio; return true;'),
+    Slip('no ratio read', READ_RATIO, 'm->ratio = 1;'),
+    Slip('a ratio asked for', HAS_RATIO, 'return read_number(t, ratio) && skip(t, " ");'),
+    Slip('a ratio written as 1 no form', HAS_RATIO,
+         'return !is_digit(t) || (read_number(t, ratio) && skip(t, " ") && *ratio != 1);'),
+    Slip('a ratio of 0 no form', HAS_RATIO,
+         'return !is_digit(t) || (read_number(t, ratio) && skip(t, " ") && *ratio != 0);'),
+    Slip('a ratio of 65,536 no form', HAS_RATIO,
+         'return !is_digit(t) || (read_number(t, ratio) && skip(t, " ") && *ratio < 65536);'),
+    Slip('a ratio of 10 digits no form', HAS_RATIO,
+         'return !is_digit(t) || (read_number(t, ratio) && skip(t, " ") && *ratio < 1000000000);'),
+    Slip('a ratio of more digits accepted', HAS_RATIO,
+         'for (*ratio = is_digit(t) ? 0 : 1; is_digit(t); t->at++)'
+         ' *ratio = *ratio * 10 + (u64)(*t->at - \'0\'); skip(t, " "); return true;'),
+    Slip('a ratio before the sign without its space', HAS_RATIO,
+         'return !is_digit(t) || (read_number(t, ratio) && (skip(t, " ") || true));'),
+    Slip('a second ratio passed over', READ_RATIO, READ_RATIO + ' u64 more;'
+         ' if (!read_ratio(t, &more)) return false;'),
+    Slip('a ratio after the sign accepted', READ_SIGN, READ_SIGN + ' struct text ahead = *t;'
+         ' u64 a, b, c; if (!m->single && read_number(&ahead, &a) && read_next(&ahead, &b)'
+         ' && read_next(&ahead, &c)) { m->ratio = a; read_number(t, &a); skip(t, " "); }'),
+    Slip('a ratio with a + of its own accepted', READ_RATIO,
+         "if (t->end - t->at > 1 && t->at[0] == '+' && t->at[1] != ' ') t->at++; " + READ_RATIO),
     # Margins
     Slip('weights swapped',
          'g.operating.factor * g.operating.weight + g.build.factor * g.build.weight',

@@ -1,5 +1,5 @@
 """Document 01's listing, its bench table and hand-worked cases on the reference, with
-those of margins, of fuel by carbon content and of sites, which are document 02's.
+those of margins, of fuel by carbon content, of sites and of ratios, which are document 02's.
 
 Prints each failure and, last, `N passed, M failed`; fails if M is not 0.
 """
@@ -12,6 +12,7 @@ from itertools import product
 
 import fuels
 import margins
+import ratios
 import reference
 import sites
 from reference import (EnergyLine, MassLine, Refused, VolumeLine, exact_fuel_milligrams,
@@ -64,8 +65,8 @@ class Checks:
         self.equal(f'demand 3 holds: {name}', found, holds)
 
 
-def both_ways(register: int) -> tuple:
-    return tuple(reading_watt_hours('single', register, up) for up in (False, True))
+def both_ways(register: int, ratio: int = 1) -> tuple:
+    return tuple(reading_watt_hours('single', register, ratio, up) for up in (False, True))
 
 
 def reports_of(text: str) -> list:
@@ -114,6 +115,35 @@ def registers(checks: Checks):
             if reference.register_value(register) != expected:
                 wrong.append(f'{register:08x}')
     checks.equal('registers decoded wrongly', wrong, [])
+
+
+def readings_by_ratio(checks: Checks):
+    """Each register by a ratio, down, and up where the product is not whole: the bench table's,
+    1 kWh and the next register, 125/128 Wh, and at the limit. Then counts."""
+    rows = [
+        (0x3F800000, 10_000, 10_000_000), (0x42F6E979, 1, 123_456, 123_457),
+        (0x42F6E979, 780, 96_295_680, 96_295_681), (0x42F6E979, 781, 96_419_137, 96_419_138),
+        (0x42F6E979, 10_000, 1_234_560_012, 1_234_560_013), (0x00000001, 10_000, 0, 1),
+        (0x80000000, 10_000, 0), (0x3F800001, 10_000, 10_000_001, 10_000_002),
+        (0x3A800000, 1, 0, 1), (0x3A800000, 64, 62, 63), (0x3A800000, 128, 125),
+        (0x3A800000, 129, 125, 126), (0x3A800000, 9_984, 9_750), (0x461C4000, 10_000, 10**11),
+        (0x462121DF, 9_697, 10**11 - 1, 10**11)]
+    for register, ratio, down, *above in rows:
+        checks.equal(f'{register:08x} by {ratio}', both_ways(register, ratio),
+                     (down, *(above or [down])))
+    for register, ratio in ((0x461C4001, 10_000), (0x4CBEBC20, 2), (0x7F7FFFFF, 1),
+                            (0x80000001, 10_000), (0xFF7FFFFF, 1), (0x7F800000, 10_000),
+                            (0xFF800000, 1), (0x7FC00000, 10_000)):
+        checks.equal(f'{register:08x} by {ratio}', both_ways(register, ratio), 2 * (Refused(3),))
+    for register, ratio in product((0x3F800000, 0x80000001, 0x7FC00000), (0, 10_001, 65_537)):
+        checks.equal(f'{register:08x} by {ratio}', both_ways(register, ratio), 2 * (Refused(2),))
+    for count, ratio, expected in (
+            (25, 40, 1_000), (10**7, 10_000, 10**11), (10**7 + 1, 10_000, Refused(3)),
+            (10**11, 1, 10**11), (10**11 + 1, 1, Refused(3)), (2**64 // 32, 32, Refused(3)),
+            (2**64 - 1, 0, Refused(2)), (1, 10_001, Refused(2))):
+        for up in (False, True):
+            checks.equal(f'{count} Wh by {ratio}',
+                         reading_watt_hours('whole', count, ratio, up), expected)
 
 
 def source(number, side, supply, loss, *meters) -> str:
@@ -213,6 +243,7 @@ def hand_worked_lists(checks: Checks):
     hand_worked(checks, 'margins', margins.LISTS)
     hand_worked(checks, 'fuels', fuels.LISTS)
     hand_worked(checks, 'sites', sites.LISTS)
+    hand_worked(checks, 'ratios', ratios.LISTS)
 
 
 def meters(checks: Checks):
@@ -558,6 +589,31 @@ def exact_fuels(checks: Checks):
     checks.demand_3('three kinds', ledger, given, True)
 
 
+def exact_ratios(checks: Checks):
+    """7 × 1,000.00011920929 Wh, which is 7,000 + 7 × 1,000 ÷ 2^23, less 3 × 5 Wh: E 6,986 of a
+    project and 6,985 of a baseline, at 1 g a Wh. Then eight readings by 10,000, each nearly 1 Wh
+    off: 330 steps of 2^-17 kWh are 25,177.002 Wh of a meter, and 25,179 rounded."""
+    (ledger, given), = reports_of('\n'.join([
+        '(grid 1000000 hydro)',
+        *(source(n, side, 'combined', 'loss 0', '(single 7 + 00000000 3f800001)', '(whole 3 - 0 5)')
+          for n, side in enumerate(reference.SIDES)), '(report)']))
+    exact = 6_985 + Fraction(7_000, 2**23)
+    for number, (side, shown) in enumerate(zip(reference.SIDES, (6_986, 6_986, 6_985))):
+        checks.equal(f'E of {side} with ratios', given.figures[number].energy, shown)
+        checks.equal(f'exact {side} with ratios', reference.exact_side(ledger, given, side),
+                     exact / 10**6)
+        checks.equal(f'gap of {side} with ratios', reference.gap(ledger, given, number),
+                     abs(shown - exact))
+    checks.demand_3('ratios', ledger, given, True)
+    (ledger, given), = reports_of('\n'.join([
+        '(grid 10000000 hydro)', source(0, 'project', 'combined', 'loss 5000',
+                                        *4 * ['(single 10000 + 42f6ed5b 42f6eea5)']), '(report)']))
+    checks.equal('E of four meters', given.figures[0].energy, 4 * 25_179)
+    checks.equal('exact energy of four meters', reference.exact_energy(ledger.sources[0].meters),
+                 4 * 330 * Fraction(10_000 * 1_000, 2**17))
+    checks.demand_3('readings that are each nearly 1 Wh off', ledger, given, True)
+
+
 def exact_energy_below_zero(checks: Checks):
     """A + meter at rest and a - meter that moved by less than a watt-hour."""
     (ledger, given), = reports_of('\n'.join([
@@ -600,11 +656,11 @@ def demand_3_can_fail(checks: Checks):
 def main() -> int:
     checks = Checks()
     checks.equal('listing', tally(LISTING.encode()).decode(), LISTING_OUTPUT)
-    for part in (bench_table, registers, grid_and_plant_entries, source_entries,
+    for part in (bench_table, registers, readings_by_ratio, grid_and_plant_entries, source_entries,
                  drops_and_replacement, hand_worked_lists, meters, grid_defaults, default_losses,
                  captive_supplies, fuel_lines, carbon_formulas, rounded_lines, report_refusals,
                  largest_side, text, lines_answered, exact_values, exact_options, exact_margins,
-                 exact_either_of_margins, exact_fuels, exact_energy_below_zero,
+                 exact_either_of_margins, exact_fuels, exact_ratios, exact_energy_below_zero,
                  demand_3_can_fail):
         part(checks)
     print(f'{checks.passed} passed, {checks.failed} failed')

@@ -19,8 +19,8 @@ from pathlib import Path
 from typing import NamedTuple
 
 from counterexamples import register_above
-from generate import FUEL_LIMITS
-from ledger_vectors import UNREAD, call_vectors, fuel_fields
+from generate import FUEL_LIMITS, RATIO_LIMIT, last_register
+from ledger_vectors import LAST_U16, UNREAD, call_vectors, fuel_fields, meter_fields
 import reference
 from reference import EnergyLine, FuelLine, MassLine, Meter, VolumeLine
 
@@ -161,7 +161,7 @@ def fuel_vectors() -> list[Vector]:
     return [fuel_vector(*case) for case in in_both_directions(cases)]
 
 
-# 3. Readings: kind, and a count of watt-hours or a register's bits
+# 3. Readings: ratio, kind, and a count of watt-hours or a register's bits
 
 KINDS = ('whole', 'single')
 LIMIT = reference.READING_LIMIT_WH
@@ -171,10 +171,14 @@ SIGN_BIT = 0x80000000
 BENCH_REGISTERS = (0x3F800000, 0x42F6E979, 0x00000001, SIGN_BIT, LAST_REGISTER, LAST_REGISTER + 1)
 INFINITIES = (0x7F800000, 0xFF800000)
 NANS = (0x7F800001, 0x7FBFFFFF, 0x7FC00000, 0x7FFFFFFF, 0xFF800001, 0xFFC00000, 0xFFFFFFFF)
+# Of 16 bits; by one that is out of range every reading is refused 2.
+EDGE_RATIOS = (0, 1, 2, 3, 7, 128, 255, 256, 8_923, 9_697, RATIO_LIMIT - 1, RATIO_LIMIT,
+               RATIO_LIMIT + 1, 32_767, 32_768, LAST_U16 - 1, LAST_U16)
 
 
-def reading_answer(kind: int, value: int) -> str:
-    down, up = (reference.reading_watt_hours(KINDS[kind], value, up) for up in (False, True))
+def reading_answer(ratio: int, kind: int, value: int) -> str:
+    down, up = (reference.reading_watt_hours(KINDS[kind], value, ratio, up)
+                for up in (False, True))
     if isinstance(down, reference.Refused):
         return f'refused {down.number}'
     return f'{down} {up}'
@@ -211,17 +215,46 @@ def near_whole(numbers: Numbers) -> list[int]:
             + [register + off for register in above for off in (-1, 0)])
 
 
+def any_ratio(numbers: Numbers) -> int:
+    """Half of them in range, the others of any size."""
+    return numbers.pick((1 + numbers.of_any_size(RATIO_LIMIT), numbers.of_any_size(2**16)))
+
+
+def around_limit(ratio: int) -> list[tuple[int, int]]:
+    """The last count and the last register within the limit by this ratio, and their
+    neighbours; counts of which the product is just beyond 2^32 and 2^64."""
+    wrapping = [-(-2**bits // ratio) for bits in (32, 64)] if ratio > 1 else []
+    return ([(0, LIMIT // ratio + off) for off in (-1, 0, 1)]
+            + [(1, last_register(ratio) + off) for off in (-1, 0, 1)]
+            + [(0, count + off) for count in wrapping for off in (-1, 0, 1)])
+
+
+def readings_by_ratio(numbers: Numbers) -> list[tuple[int, int, int]]:
+    """Each ratio with its own limits and with readings of every kind."""
+    values = [(0, value) for value in (0, 1, LIMIT, LIMIT + 1, LAST_U64 - 1, LAST_U64)]
+    values += [(1, value) for value in (
+        *BENCH_REGISTERS, 0x3A800000, 0x3F800001, 0x42F6E97A, SIGN_BIT + 1, *INFINITIES,
+        *NANS[2:4], 0x7F7FFFFF, 0xFF7FFFFF)]
+    ratios = [*EDGE_RATIOS, *(any_ratio(numbers) for _ in range(60))]
+    return [(ratio, *value) for ratio in ratios
+            for value in (*values, *(around_limit(ratio) if ratio else ()))]
+
+
 def reading_vectors() -> list[Vector]:
+    """Without a ratio, then each once more by one of its own, and by each edge of the ratios."""
     numbers = Numbers(3)
     registers = [*BENCH_REGISTERS, LAST_REGISTER - 1, SIGN_BIT + LAST_REGISTER, *INFINITIES,
                  *NANS, *patterns(numbers), *near_whole(numbers)]
     registers += [LAST_REGISTER + 1 + numbers.of_any_size(0x7FFFFF) for _ in range(20)]
     registers += [numbers.below(2**32) for _ in range(200)]
-    cases = [(0, value) for value in counts(numbers)] + [(1, value) for value in registers]
+    values = [(0, value) for value in counts(numbers)] + [(1, value) for value in registers]
+    cases = [(1, *value) for value in values]
+    cases += [(any_ratio(numbers), *value) for value in values]
+    cases += readings_by_ratio(numbers)
     return [Vector(case, reading_answer(*case)) for case in cases]
 
 
-# 4. Sources: direction, number of meters, then the sign, kind, first and last of four meters
+# 4. Sources: direction, number of meters, then the ratio, sign, kind, first and last of four meters
 
 SIGNS = ('+', '-')
 SIDES = ('project', 'baseline')
@@ -231,17 +264,28 @@ FRACTIONAL = 0x42F6E979  # between 123,456 and 123,457 Wh
 SMALLEST = 0x00000001
 ACCEPTED = (Meter('whole', '+', 0, 1_000), Meter('whole', '-', 0, 10),
             Meter('single', '+', 0, FRACTIONAL), Meter('single', '-', 0, SMALLEST))
+BY_RATIO = (Meter('whole', '+', 3, 28, 40), Meter('single', '-', FRACTIONAL, FRACTIONAL + 1, 40),
+            Meter('single', '+', SMALLEST, FRACTIONAL, RATIO_LIMIT), Meter('whole', '-', 5, 5, 7))
+# Refused 2, whatever the readings are.
+UNFIT = (Meter('whole', '+', 0, 1, 0), Meter('single', '-', 0, SMALLEST, RATIO_LIMIT + 1),
+         Meter('single', '+', NANS[2], NANS[3], LAST_U16), Meter('whole', '-', LAST_U64, 0, 0))
 # Refused 3: above the limit, below zero, infinite, not a number.
 UNREADABLE = (Meter('whole', '+', 0, LIMIT + 1), Meter('whole', '-', LAST_U64, 0),
               Meter('single', '-', 0, LAST_REGISTER + 1),
               Meter('single', '+', SIGN_BIT + 1, FRACTIONAL),
               *(Meter('single', '+', 0, register) for register in INFINITIES),
-              *(Meter('single', '-', register, FRACTIONAL) for register in NANS[2:4]))
+              *(Meter('single', '-', register, FRACTIONAL) for register in NANS[2:4]),
+              Meter('whole', '+', 0, LIMIT // RATIO_LIMIT + 1, RATIO_LIMIT),
+              Meter('whole', '-', 2**64 // 40 + 1, 2**64 // 40 + 1, 40),
+              Meter('single', '+', 0, LAST_REGISTER, 2),
+              Meter('single', '-', SIGN_BIT + 1, FRACTIONAL, RATIO_LIMIT))
 # Refused 4. Neighbouring registers run back by less than a watt-hour, so they round alike.
 RUNNING_BACK = (Meter('whole', '+', 5, 4), Meter('whole', '-', LIMIT, 0),
                 Meter('single', '+', FRACTIONAL + 1, FRACTIONAL),
                 Meter('single', '-', SMALLEST + 1, SMALLEST),
-                Meter('single', '+', SMALLEST, SIGN_BIT))
+                Meter('single', '+', SMALLEST, SIGN_BIT),
+                Meter('whole', '+', 5, 4, RATIO_LIMIT),
+                Meter('single', '-', FRACTIONAL + 1, FRACTIONAL, 40))
 
 
 def whole(*moved: int) -> list[Meter]:
@@ -249,8 +293,8 @@ def whole(*moved: int) -> list[Meter]:
     return [Meter('whole', '+' if wh >= 0 else '-', 0, abs(wh)) for wh in moved]
 
 
-def single(sign: str, first: int, last: int) -> Meter:
-    return Meter('single', sign, first, last)
+def single(sign: str, first: int, last: int, ratio: int = 1) -> Meter:
+    return Meter('single', sign, first, last, ratio)
 
 
 def source_answer(direction: int, count: int, meters: list[Meter]) -> str:
@@ -265,9 +309,8 @@ def source_answer(direction: int, count: int, meters: list[Meter]) -> str:
 def source_vector(direction: int, count: int, meters: list[Meter]) -> Vector:
     """Meters at rest fill the places that are left."""
     placed = (meters + 4 * [REST])[:4]
-    fields = [field for m in placed
-              for field in (SIGNS.index(m.sign), KINDS.index(m.kind), m.first, m.last)]
-    return Vector((direction, count, *fields), source_answer(direction, count, placed))
+    return Vector((direction, count, *meter_fields(placed)),
+                  source_answer(direction, count, placed))
 
 
 def counted(meters: list[Meter]) -> tuple[int, list[Meter]]:
@@ -277,9 +320,9 @@ def counted(meters: list[Meter]) -> tuple[int, list[Meter]]:
 def meter_counts() -> list[tuple[int, list[Meter]]]:
     """2 comes first, and a meter beyond the count is not read."""
     refused = (RUNNING_BACK[0], *UNREADABLE[-3:])
-    cases = [(count, list(meters)) for meters in (ACCEPTED, refused)
+    cases = [(count, list(meters)) for meters in (ACCEPTED, BY_RATIO, refused, UNFIT)
              for count in (0, 1, 2, 3, 4, 5, 6, 255)]
-    for bad in (*UNREADABLE, *RUNNING_BACK):
+    for bad in (*UNFIT, *UNREADABLE, *RUNNING_BACK):
         cases += [(count, [*ACCEPTED[:count], bad, *ACCEPTED[count:3]]) for count in (1, 2, 3)]
     return cases
 
@@ -313,31 +356,57 @@ def single_sources() -> list[tuple[int, list[Meter]]]:
     return [counted(meters) for meters in cases]
 
 
-def refused_sources(numbers: Numbers) -> list[tuple[int, list[Meter]]]:
-    """3 and 4 at each place, then both, in either order: 3 is tested over all
-    meters before 4."""
-    cases = [[*ACCEPTED[:at], bad, *ACCEPTED[at + 1:]]
-             for bad, at in product((*UNREADABLE, *RUNNING_BACK), range(4))]
-    for unreadable, (at, other) in product(UNREADABLE, permutations(range(4), 2)):
-        meters = list(ACCEPTED)
-        meters[at], meters[other] = unreadable, numbers.pick(RUNNING_BACK)
-        cases.append(meters)
+def sources_by_ratio() -> list[tuple[int, list[Meter]]]:
+    """Products that bring E to 0, to the limit and one beyond; registers at rest by ratios that
+    make them whole Wh, and by others; two meters, each by its own ratio."""
+    half = LIMIT // 2 // RATIO_LIMIT
+    top = Meter('whole', '+', 0, LIMIT // RATIO_LIMIT, RATIO_LIMIT)
+    cases = [[top, *whole(*moved)]
+             for moved in ((), (0,), (1,), (-1,), (1, -1), (1, -2), (-LIMIT,))]
+    cases += [[Meter('whole', '+', 0, half, RATIO_LIMIT), Meter('whole', '+', 0, LIMIT // 4, 2),
+               *whole(*moved)] for moved in ((), (1,), (1, -1))]
+    cases += [[Meter('whole', '-', 0, 1, RATIO_LIMIT), *whole(moved)]
+              for moved in (RATIO_LIMIT - 1, RATIO_LIMIT, RATIO_LIMIT + 1)]
+    cases += [[single(sign, value, value, ratio), *whole(*moved)] for sign in SIGNS
+              for value in (FRACTIONAL, SMALLEST, 0x3A800000)
+              for ratio in (2, 127, 128, 9_984, RATIO_LIMIT) for moved in ((), (1,))]
+    cases += [[single('+', 0, last_register(ratio), ratio), *whole(*moved)]
+              for ratio in (2, 3, 8_923, 9_697, RATIO_LIMIT) for moved in ((), (1,), (-1,), (2,))]
+    cases += [[Meter('whole', sign, 3, 8, ratio), Meter('whole', '+', 0, 7, other)]
+              for sign, ratio, other in product(SIGNS, (1, 2, 40, RATIO_LIMIT), (1, 40))]
     return [counted(meters) for meters in cases]
 
 
-def random_register(numbers: Numbers) -> int:
+def refused_sources(numbers: Numbers) -> list[tuple[int, list[Meter]]]:
+    """2, 3 and 4 at each place, then two of them, in either order: each is tested over all
+    meters before the next."""
+    cases = [[*ACCEPTED[:at], bad, *BY_RATIO[at + 1:]]
+             for bad, at in product((*UNFIT, *UNREADABLE, *RUNNING_BACK), range(4))]
+    for earlier, later in ((UNFIT, UNREADABLE), (UNFIT, RUNNING_BACK), (UNREADABLE, RUNNING_BACK)):
+        for first, (at, other) in product(earlier, permutations(range(4), 2)):
+            meters = list(ACCEPTED)
+            meters[at], meters[other] = first, numbers.pick(later)
+            cases.append(meters)
+    return [counted(meters) for meters in cases]
+
+
+def random_register(numbers: Numbers, ratio: int) -> int:
     """From a fraction of a watt-hour up, rarely over the limit."""
-    return (112 + numbers.below(41)) << 23 | numbers.below(0x800000)
+    highest = last_register(ratio) + numbers.pick((0, 0, 0, 0x800000))
+    return min((112 + numbers.below(41)) << 23 | numbers.below(0x800000), highest)
 
 
 def random_meter(numbers: Numbers, kinds: tuple[str, ...]) -> Meter:
     """A - meter moves little, so that E is mostly not below 0. Few run back."""
     kind = numbers.pick(kinds)
     sign = numbers.pick('++-')
-    last = random_register(numbers) if kind == 'single' else numbers.of_any_size(LIMIT)
+    ratio = numbers.pick((1, 1, 1 + numbers.of_any_size(RATIO_LIMIT)))
+    last = (random_register(numbers, ratio) if kind == 'single'
+            else numbers.of_any_size(LIMIT // ratio))
     moved = numbers.of_any_size(last + 1) if sign == '+' else numbers.below(min(last, 99) + 1)
     first = last - numbers.pick((moved, moved, moved, 0, 1 if last else 0))
-    return Meter(kind, sign, *((last, first) if numbers.below(40) == 0 else (first, last)))
+    readings = (last, first) if numbers.below(40) == 0 else (first, last)
+    return Meter(kind, sign, *readings, ratio)
 
 
 def random_meters(numbers: Numbers, count: int) -> list[Meter]:
@@ -362,14 +431,15 @@ def settled_sources(numbers: Numbers) -> list[tuple]:
 def source_vectors() -> list[Vector]:
     numbers = Numbers(4)
     cases = in_both_directions([
-        *meter_counts(), *whole_sources(), *single_sources(), *refused_sources(numbers)])
+        *meter_counts(), *whole_sources(), *single_sources(), *sources_by_ratio(),
+        *refused_sources(numbers)])
     cases += settled_sources(numbers)
     cases += in_both_directions(
         counted(random_meters(numbers, 1 + numbers.below(4))) for _ in range(380))
     return [source_vector(*case) for case in cases]
 
 
-# 5. Calls on the ledger: operation, and up to 23 arguments
+# 5. Calls on the ledger: operation, and up to 27 arguments
 
 
 def ledger_vectors() -> list[Vector]:

@@ -10,8 +10,10 @@ use lib.Dec.{leb, eqb}
 use lib.ListN.{length, take, replicate}
 use borrow.Author.Tests.{leb-true, leb-false, le-leb, lt-leb, eqb-true, ne-eqb}
 use Rattle.rounding.proofs.Tests.{and-both}
-use Rattle.metering.specs.Energy.{judgedReadings, judgedMeters}
+use Rattle.metering.specs.Energy.{hasRatio, allMeters, judgedReadings, judgedMeters}
+use Rattle.metering.specs.Reading.{ratioFits, ratioLimit}
 use Rattle.metering.specs.declared.Meter.{Meter}
+use Rattle.metering.specs.declared.MetersJudged.{MetersJudged}
 use Rattle.metering.specs.declared.MetersJudged.the-variants as metersJudged
 use Rattle.rounding.specs.declared.Direction.{Direction}
 use Rattle.fuel.specs.Fuel.{noLine, kindFits, withinLimits}
@@ -39,7 +41,7 @@ use Rattle.records.specs.declared.SourceEntry.{SourceEntry}
 use Rattle.ledger.specs.declared.Ledger.{Ledger}
 use Rattle.ledger.proofs.Entries.{plant-facts, source-facts, drop-facts}
 use Rattle.forms.specs.Form.{Form, grid, margins, plant, source, dropSource, dropPlant, report}
-use Rattle.forms.specs.Calls.{fourOf, callOf, atMost, byteField, fittedMargin, fittedGrid, fittedSupply, fittedLoss, fittedFuelKind, fittedLine, fittedPlant, fittedSource, fitted}
+use Rattle.forms.specs.Calls.{fourOf, callOf, atMost, byteField, halfField, fittedMargin, fittedGrid, fittedSupply, fittedLoss, fittedMeter, fittedFuelKind, fittedLine, fittedPlant, fittedSource, fitted}
 
 -- ---- one number
 
@@ -247,15 +249,43 @@ loss-unchanged Default20 e = refl
 loss-unchanged Default3 e = refl
 loss-unchanged Nothing e = refl
 
-meters-same : (dir : Direction) (c : ℕ) (ms : List Meter) → judgedMeters dir (byteField c) ms ≡ judgedMeters dir c ms
+-- A ratio is in its range where the field's number is.
+ratio-same : (r : ℕ) → ratioFits (halfField r) ≡ ratioFits r
+ratio-same r = rw (same-start 65535 1 r (omega arith), same-limit 65535 ratioLimit r (omega arith))
+
+meter-unchanged : (m : Meter) → hasRatio m ≡ true → fittedMeter m ≡ m
+meter-unchanged m h = rw (unchanged 65535 ratioLimit (m .ratio) (omega arith) (and-both (leb 1 (m .ratio)) _ h .1))
+
+ratios-same : (c : ℕ) (ms : List Meter) → allMeters hasRatio (take c (map fittedMeter ms)) ≡ allMeters hasRatio (take c ms)
+unfolding allMeters
+ratios-same zero ms = refl
+ratios-same (suc c) [] = refl
+ratios-same (suc c) (m ∷ ms) = rw (ratio-same (m .ratio), ratios-same c ms)
+
+meters-unchanged : (c : ℕ) (ms : List Meter) → allMeters hasRatio (take c ms) ≡ true → take c (map fittedMeter ms) ≡ take c ms
+unfolding allMeters
+meters-unchanged zero ms h = refl
+meters-unchanged (suc c) [] h = refl
+meters-unchanged (suc c) (m ∷ ms) h =
+    let p = and-both (hasRatio m) _ h in
+    rw (meter-unchanged m (p .0), meters-unchanged c ms (p .1))
+
+-- The meters' judgement, where their count is in its range or not.
+abbrev judgedIf : Direction → Bool → List Meter → MetersJudged
+judgedIf dir counted ms = cond (counted && allMeters hasRatio ms) (judgedReadings dir ms) (metersJudged.Refused 2)
+
+meters-same : (dir : Direction) (c : ℕ) (ms : List Meter) → judgedMeters dir (byteField c) (map fittedMeter ms) ≡ judgedMeters dir c ms
 unfolding judgedMeters
 meters-same dir c ms =
     rw (same-start 255 1 c (omega arith), same-limit 255 4 c (omega arith)) (go (leb 1 c) (leb c 4) refl)
   where
-    go : (a b : Bool) → leb c 4 ≡ b
-        → cond (a && b) (judgedReadings dir (take (byteField c) ms)) (metersJudged.Refused 2)
-        ≡ cond (a && b) (judgedReadings dir (take c ms)) (metersJudged.Refused 2)
-    go true true e = rw (unchanged 255 4 c (omega arith) e)
+    ranged : (b : Bool) → allMeters hasRatio (take c ms) ≡ b
+        → cond b (judgedReadings dir (take c (map fittedMeter ms))) (metersJudged.Refused 2) ≡ cond b (judgedReadings dir (take c ms)) (metersJudged.Refused 2)
+    ranged true e = rw (meters-unchanged c ms e)
+    ranged false e = refl
+
+    go : (a b : Bool) → leb c 4 ≡ b → judgedIf dir (a && b) (take (byteField c) (map fittedMeter ms)) ≡ judgedIf dir (a && b) (take c ms)
+    go true true e = rw (unchanged 255 4 c (omega arith) e, ratios-same c ms) (ranged (allMeters hasRatio (take c ms)) refl)
     go true false e = refl
     go false b e = refl
 

@@ -12,7 +12,7 @@ use Rattle.text.specs.Template.{Read, mapRead, templateIn}
 use Rattle.text.specs.declared.Numbers.{Numbers}
 use Rattle.text.proofs.Templates.{template-shorter}
 use Rattle.rounding.specs.Lists.{All}
-use Rattle.forms.specs.Reading.{Row, orElse, oneOf, followed, manyWithin, manyOf, fuels, meters}
+use Rattle.forms.specs.Reading.{Row, orElse, oneOf, followed, manyWithin, manyOf, fuels, plainMeters, ratioMeters, meters}
 use Rattle.forms.specs.Calls.{fourOf}
 use Rattle.forms.specs.Steps.{found, keptAt}
 
@@ -27,8 +27,9 @@ unfolding fuels
 fuels-take = (omega arith, (omega arith, (omega arith, tt)))
 
 pub meters-take : TakesBytes meters
-unfolding meters
-meters-take = (omega arith, (omega arith, (omega arith, (omega arith, tt))))
+unfolding meters plainMeters ratioMeters
+meters-take =
+    (omega arith, (omega arith, (omega arith, (omega arith, (omega arith, (omega arith, (omega arith, (omega arith, tt))))))))
 
 one-shorter : {A : Type 0} (rows : List (Row A)) → TakesBytes rows → (t : List ℕ) (r : Read A) → oneOf rows t ≡ some r → length (r .rest) < length t
 unfolding oneOf

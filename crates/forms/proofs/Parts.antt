@@ -1,11 +1,19 @@
 -- Laws of the parts of a form: each is read from its table exactly where its text stands. Assumes nothing.
-use mathlib.Core.Path.{_≡_, refl}
-use mathlib.Core.List.{List, [], _∷_, _++_}
-use mathlib.Core.Option.{some}
-use Prim.Native.Nat.{ℕ}
+use mathlib.Core.Path.{_≡_, refl, sym, ap, _∙_}
+use mathlib.Core.Bool.{false}
+use mathlib.Core.List.{List, [], _∷_, _++_, append-assoc}
+use mathlib.Core.Option.{Option, none, some}
+use Prim.Native.Nat.{ℕ, _<_}
+use native.Mathlib.Omega.{arith}
+use lib.ListN.{length}
+use borrow.Author.Tests.{ne-eqb}
 use Rattle.text.specs.Digits.{leadingDigits, digitValue}
-use Rattle.text.specs.Template.{filled, placesOf, Read, pieceIn, numbersIn, templateIn}
-use Rattle.text.proofs.Templates.{Parted}
+use Rattle.text.specs.Decimal.{decimal}
+use Rattle.text.specs.Template.{isDecimalPlace, isRegisterPlace, filled, placesOf, Read, pieceIn, numbersIn, numbersOf, templateIn}
+use Rattle.text.specs.Word.{bytes}
+use Rattle.text.proofs.Digits.{AllDigits}
+use Rattle.text.proofs.Decimals.{length-above-zero, decimal-all}
+use Rattle.text.proofs.Templates.{Parted, decimal-piece}
 use Rattle.metering.specs.declared.Sign.the-variants.{Plus, Minus}
 use Rattle.fuel.specs.declared.FuelKind.{FuelKind}
 use Rattle.fuel.specs.declared.FuelKind.the-variants.{Energy, Mass, Volume}
@@ -20,9 +28,10 @@ use Rattle.emissions.specs.declared.Loss.{Loss}
 use Rattle.emissions.specs.declared.Loss.the-variants.{Nothing, Measured, Default20, Default3}
 use Rattle.forms.specs.Templates.{closing}
 use Rattle.rounding.specs.Lists.{All}
-use Rattle.forms.specs.Form.{MeterForm, whole, single, kindText, sideText, supplyText, lossText, meterText, fuelKindText, fuelText, allText, FuelKindWritable, FuelWritable, SupplyWritable, LossWritable, MeterWritable}
-use Rattle.forms.specs.Reading.{oneOf, manyOf, kinds, sides, supplies, losses, meters, fuels}
-use Rattle.forms.proofs.Tables.{Stands, one-stands, this-row, later-row, many-stand, many-read-back}
+use Rattle.forms.specs.Form.{MeterForm, whole, single, kindText, sideText, supplyText, lossText, meterText, fuelKindText, fuelText, allText, FuelKindWritable, FuelWritable, Decimal, SupplyWritable, LossWritable, MeterWritable}
+use Rattle.forms.specs.Reading.{oneOf, manyOf, kinds, sides, supplies, losses, plainMeters, ratioMeters, meters, fuels}
+use Rattle.forms.proofs.Rows.{no-row}
+use Rattle.forms.proofs.Tables.{Stands, either-read, else-read, template-later, one-append, one-stands, this-row, later-row, many-stand, many-read-back}
 
 -- Kinds and sides have no number.
 abbrev pub Always : {A : Type 0} → A → Type 0
@@ -47,11 +56,22 @@ pub loss-stands : (t : List ℕ) (r : Read Loss) → oneOf losses t ≡ some r �
 unfolding losses placesOf filled
 loss-stands = one-stands lossText LossWritable losses ((λ T h. (refl, h)), ((refl, tt), ((refl, tt), ((refl, tt), tt))))
 
+plain-stands : (t : List ℕ) (r : Read MeterForm) → oneOf plainMeters t ≡ some r → Stands meterText MeterWritable t r
+unfolding plainMeters placesOf filled
+plain-stands =
+    one-stands meterText MeterWritable plainMeters
+    ((λ m h n k. (refl, (tt, h, k))), ((λ m h n k. (refl, (tt, h, k))), ((λ m h n k. (refl, (tt, h, k))), ((λ m h n k. (refl, (tt, h, k))), tt))))
+
+ratio-stands : (t : List ℕ) (r : Read MeterForm) → oneOf ratioMeters t ≡ some r → Stands meterText MeterWritable t r
+unfolding ratioMeters placesOf filled
+ratio-stands =
+    one-stands meterText MeterWritable ratioMeters
+    ((λ l g m h n k. (refl, (g, h, k))), ((λ l g m h n k. (refl, (g, h, k))), ((λ l g m h n k. (refl, (g, h, k))), ((λ l g m h n k. (refl, (g, h, k))), tt))))
+
 meter-stands : (t : List ℕ) (r : Read MeterForm) → oneOf meters t ≡ some r → Stands meterText MeterWritable t r
-unfolding meters placesOf filled
-meter-stands =
-    one-stands meterText MeterWritable meters
-    ((λ m h n k. (refl, (h, k))), ((λ m h n k. (refl, (h, k))), ((λ m h n k. (refl, (h, k))), ((λ m h n k. (refl, (h, k))), tt))))
+unfolding meters
+meter-stands t r e =
+    either-read (oneOf plainMeters t) (oneOf ratioMeters t) r (sym (one-append plainMeters ratioMeters t) ∙ e) (plain-stands t r) (ratio-stands t r)
 
 fuel-stands : (t : List ℕ) (r : Read FuelLine) → oneOf fuels t ≡ some r → Stands fuelText FuelWritable t r
 unfolding fuels placesOf filled
@@ -62,7 +82,7 @@ fuel-stands =
 -- ---- a part's text is read as the part
 
 -- A row before the part's differs from its text before the first number, so that it computes to none; what follows a decimal is a space or
--- a bracket.
+-- a bracket. A meter's ratio alone stands where the rows still agree: its sign comes after it.
 module _ (rest : List ℕ) where
   pub kind-reads-back : (k : GridKind) → oneOf kinds (kindText k ++ rest) ≡ some (record { value = k; rest = rest })
   unfolding kinds templateIn numbersIn pieceIn placesOf filled Parted
@@ -91,14 +111,82 @@ module _ (rest : List ℕ) where
   loss-reads-back Default3 h = later-row _ _ _ refl (later-row _ _ _ refl (this-row _ _ [] rest tt tt))
   loss-reads-back Nothing h = later-row _ _ _ refl (later-row _ _ _ refl (later-row _ _ _ refl (this-row _ _ [] rest tt tt)))
 
+module _ (ratio : ℕ) (more rest : List ℕ) where
+  -- A meter's text from its ratio on, and that its word before that is read, which has no number.
+  abbrev withRatio : List ℕ
+  withRatio = (decimal ratio ++ more) ++ rest
+
+  abbrev Word : List ℕ → Type 0
+  Word word = templateIn word (word ++ withRatio) ≡ some (record { value = numbersOf []; rest = withRatio })
+
+  row-apart : (word w : List ℕ) → Word word → numbersIn w withRatio ≡ none → templateIn (word ++ w) (word ++ withRatio) ≡ none
+  row-apart word w e f = template-later word w (word ++ withRatio) (record { value = numbersOf []; rest = withRatio }) e f
+
+  -- A row without a ratio has its sign where the ratio stands, and a sign is no digit.
+  sign-apart : (sign : ℕ) (w : List ℕ) → isDecimalPlace sign ≡ false → isRegisterPlace sign ≡ false → digitValue sign ≡ 16
+      → numbersIn (sign ∷ w) withRatio ≡ none
+  unfolding numbersIn pieceIn AllDigits
+  sign-apart sign w d r v = go (decimal ratio) (length-above-zero ratio) (decimal-all ratio)
+    where
+      go : (t : List ℕ) → 0 < length t → AllDigits 10 t → numbersIn (sign ∷ w) ((t ++ more) ++ rest) ≡ none
+      go [] h a = absurd (omega arith)
+      go (b ∷ t) h a = rw (d, r, ne-eqb b sign (λ e. omega (arith, a .0, ap digitValue e, v)))
+
+  -- A row with the other sign is read up to it.
+  ratio-read : (w : List ℕ) → Decimal ratio → leadingDigits 10 (more ++ rest) ≡ [] → numbersIn w (more ++ rest) ≡ none
+      → numbersIn (35 ∷ w) withRatio ≡ none
+  unfolding numbersIn
+  ratio-read w h p e = rw (append-assoc, decimal-piece ratio (more ++ rest) h p, e)
+
+  whole-apart : oneOf plainMeters (bytes " (whole " ++ withRatio) ≡ none
+  unfolding plainMeters templateIn numbersIn pieceIn digitValue
+  whole-apart =
+      later-row _ _ _ (row-apart (bytes " (whole ") (bytes "+ # #)") refl (sign-apart 43 (bytes " # #)") refl refl refl))
+      (later-row _ _ _ (row-apart (bytes " (whole ") (bytes "- # #)") refl (sign-apart 45 (bytes " # #)") refl refl refl))
+      (later-row _ _ _ refl (later-row _ _ _ refl (no-row _))))
+
+  single-apart : oneOf plainMeters (bytes " (single " ++ withRatio) ≡ none
+  unfolding plainMeters templateIn numbersIn pieceIn digitValue
+  single-apart =
+      later-row _ _ _ refl
+      (later-row _ _ _ refl
+      (later-row _ _ _ (row-apart (bytes " (single ") (bytes "+ % %)") refl (sign-apart 43 (bytes " % %)") refl refl refl))
+      (later-row _ _ _ (row-apart (bytes " (single ") (bytes "- % %)") refl (sign-apart 45 (bytes " % %)") refl refl refl)) (no-row _))))
+
+  -- The table with ratios is tried where the one without them reads nothing.
+  ratio-tried : (word : List ℕ) {r : Option (Read MeterForm)} → oneOf plainMeters (word ++ withRatio) ≡ none → oneOf ratioMeters (word ++ withRatio) ≡ r
+      → oneOf meters (word ++ withRatio) ≡ r
+  unfolding meters
+  ratio-tried word e f = one-append plainMeters ratioMeters (word ++ withRatio) ∙ else-read e f
+
 meter-reads-back : (m : MeterForm) (rest : List ℕ) → MeterWritable m → oneOf meters (meterText m ++ rest) ≡ some (record { value = m; rest = rest })
-unfolding meters templateIn numbersIn pieceIn placesOf filled Parted leadingDigits digitValue
-meter-reads-back (whole Plus m n) rest h = this-row _ _ (m ∷ n ∷ []) rest (h .0, (h .1, tt)) (refl, (refl, tt))
-meter-reads-back (whole Minus m n) rest h = later-row _ _ _ refl (this-row _ _ (m ∷ n ∷ []) rest (h .0, (h .1, tt)) (refl, (refl, tt)))
-meter-reads-back (single Plus m n) rest h =
-    later-row _ _ _ refl (later-row _ _ _ refl (this-row _ _ (m ∷ n ∷ []) rest (h .0, (h .1, tt)) tt))
-meter-reads-back (single Minus m n) rest h =
-    later-row _ _ _ refl (later-row _ _ _ refl (later-row _ _ _ refl (this-row _ _ (m ∷ n ∷ []) rest (h .0, (h .1, tt)) tt)))
+unfolding meters plainMeters ratioMeters templateIn numbersIn pieceIn placesOf filled Parted leadingDigits digitValue
+meter-reads-back (whole none Plus m n) rest h = this-row _ _ (m ∷ n ∷ []) rest (h .1, (h .2, tt)) (refl, (refl, tt))
+meter-reads-back (whole none Minus m n) rest h = later-row _ _ _ refl (this-row _ _ (m ∷ n ∷ []) rest (h .1, (h .2, tt)) (refl, (refl, tt)))
+meter-reads-back (single none Plus m n) rest h =
+    later-row _ _ _ refl (later-row _ _ _ refl (this-row _ _ (m ∷ n ∷ []) rest (h .1, (h .2, tt)) tt))
+meter-reads-back (single none Minus m n) rest h =
+    later-row _ _ _ refl (later-row _ _ _ refl (later-row _ _ _ refl (this-row _ _ (m ∷ n ∷ []) rest (h .1, (h .2, tt)) tt)))
+meter-reads-back (whole (some r) Plus m n) rest h =
+    let more = filled (bytes " + # #)") (m ∷ n ∷ []) in
+    ratio-tried r more rest (bytes " (whole ") (whole-apart r more rest)
+    (this-row _ _ (r ∷ m ∷ n ∷ []) rest (h .0, (h .1, (h .2, tt))) (refl, (refl, (refl, tt))))
+meter-reads-back (whole (some r) Minus m n) rest h =
+    let more = filled (bytes " - # #)") (m ∷ n ∷ []) in
+    ratio-tried r more rest (bytes " (whole ") (whole-apart r more rest)
+    (later-row _ _ _ (row-apart r more rest (bytes " (whole ") (bytes "# + # #)") refl (ratio-read r more rest (bytes " + # #)") (h .0) refl refl))
+    (this-row _ _ (r ∷ m ∷ n ∷ []) rest (h .0, (h .1, (h .2, tt))) (refl, (refl, (refl, tt)))))
+meter-reads-back (single (some r) Plus m n) rest h =
+    let more = filled (bytes " + % %)") (m ∷ n ∷ []) in
+    ratio-tried r more rest (bytes " (single ") (single-apart r more rest)
+    (later-row _ _ _ refl (later-row _ _ _ refl (this-row _ _ (r ∷ m ∷ n ∷ []) rest (h .0, (h .1, (h .2, tt))) (refl, tt))))
+meter-reads-back (single (some r) Minus m n) rest h =
+    let more = filled (bytes " - % %)") (m ∷ n ∷ []) in
+    ratio-tried r more rest (bytes " (single ") (single-apart r more rest)
+    (later-row _ _ _ refl
+    (later-row _ _ _ refl
+    (later-row _ _ _ (row-apart r more rest (bytes " (single ") (bytes "# + % %)") refl (ratio-read r more rest (bytes " + % %)") (h .0) refl refl))
+    (this-row _ _ (r ∷ m ∷ n ∷ []) rest (h .0, (h .1, (h .2, tt))) (refl, tt)))))
 
 fuel-kind-reads-back : (k : FuelKind) (rest : List ℕ) → FuelKindWritable k
     → oneOf fuels (fuelKindText k ++ rest) ≡ some (record { value = record { kind = k }; rest = rest })
@@ -122,7 +210,7 @@ fuels-stand = many-stand fuelText FuelWritable fuels fuel-stands
 
 pub meters-read-back : (parts : List MeterForm) → All MeterWritable parts
     → manyOf meters (allText meterText parts ++ closing) ≡ record { value = parts; rest = closing }
-unfolding oneOf meters templateIn numbersIn pieceIn
+unfolding oneOf meters plainMeters ratioMeters templateIn numbersIn pieceIn
 meters-read-back = many-read-back meterText MeterWritable meters meter-reads-back closing refl
 
 pub fuels-read-back : (lines : List FuelLine) → All FuelWritable lines

@@ -1,21 +1,23 @@
 -- A table tried row by row, and the fields that numbers are put in. Assumes nothing.
-use Prim.Native.Nat.{ℕ, _≤_, _<_}
-use mathlib.Core.Path.{_≡_, refl}
+use Prim.Native.Nat.{ℕ, _^_, _≤_, _<_}
+use mathlib.Core.Path.{_≡_, refl, sym, _∙_}
 use mathlib.Core.Bool.{Bool, true, false, cond}
-use mathlib.Core.List.{List, [], _∷_}
-use mathlib.Core.Option.{none}
+use mathlib.Core.List.{List, [], _∷_, _++_}
+use mathlib.Core.Option.{Option, none, some, Option·none-ne-some}
 use native.Mathlib.Omega.{arith}
 use lib.Dec.{leb}
 use lib.ListN.{drop}
 use borrow.Author.Tests.{le-leb, lt-leb, leb-true}
-use Rattle.text.specs.Template.{placesOf, Writable, numbersOf, templateAt}
+use Rattle.text.specs.Template.{Read, mapRead, templateAt}
 use Rattle.text.specs.declared.Numbers.{Numbers}
 use Rattle.text.specs.declared.Match.{Match}
 use Rattle.text.specs.declared.Match.the-variants as match
-use Rattle.text.proofs.Templates.{template-stands, template-read}
-use Rattle.forms.specs.Reading.{Row, oneOf}
+use Rattle.text.proofs.Templates.{template-read}
+use Rattle.forms.specs.Reading.{Row, orElse, oneOf}
 use Rattle.forms.specs.Calls.{atMost, wordField}
 use Rattle.forms.specs.Steps.{found}
+use Rattle.forms.proofs.Tables.{else-read, one-append}
+use Rattle.forms.proofs.Lines.{part-missing}
 
 -- ---- a table
 
@@ -38,6 +40,19 @@ pub no-row : {A : Type 0} (t : List ℕ) → oneOf {A = A} [] t ≡ none
 unfolding oneOf
 no-row t = refl
 
+module _ {A B : Type 0} (f : A → B) (rows more : List (Row A)) (t : List ℕ) where
+  -- What the first of two tables reads is what both read.
+  pub first-table : {r : Read B} → some r ≡ mapRead f (oneOf rows t) → some r ≡ mapRead f (oneOf (rows ++ more) t)
+  first-table {r} e = rw (one-append rows more t) (go (oneOf rows t) e)
+    where
+      go : (a : Option (Read A)) → some r ≡ mapRead f a → some r ≡ mapRead f (orElse a (oneOf more t))
+      go none e = absurd (Option·none-ne-some r (sym e))
+      go (some q) e = e
+
+  -- Where it reads nothing, the second table reads.
+  pub second-table : none ≡ mapRead f (oneOf rows t) → oneOf (rows ++ more) t ≡ oneOf more t
+  second-table e = one-append rows more t ∙ else-read (part-missing f (oneOf rows t) e) refl
+
 -- ---- a field
 
 pub at-most-within : (limit n : ℕ) → n ≤ limit → atMost limit n ≡ n
@@ -53,15 +68,9 @@ at-most-fits limit n = go (leb n limit) refl
     go true e = leb-true n limit e
     go false e = omega arith
 
--- Two registers that are read fit their fields: these hold them as they are.
-pub registers-fit : (w s : List ℕ) (at : ℕ) (m : Match) → m ≡ templateAt w s at → (n : Numbers) (next : ℕ) → m ≡ match.Match n next
-    → placesOf w ≡ 37 ∷ 37 ∷ [] → (wordField (n .first) ≡ n .first) × (wordField (n .second) ≡ n .second)
-registers-fit w s at m e n next k p =
-    let d = template-stands w (drop at s) n (drop next s) (template-read w s at e k) in
-    go (d .numbers) (rw p at (d .writable)) (d .value)
-  where
-    go : (ns : List ℕ) → Writable (37 ∷ 37 ∷ []) ns → numbersOf ns ≡ n → (wordField (n .first) ≡ n .first) × (wordField (n .second) ≡ n .second)
-    go [] v q = absurd v
-    go (a ∷ []) v q = absurd (v .1)
-    go (a ∷ b ∷ []) v q = rw (← q) (at-most-within _ a (omega (arith, v .0)), at-most-within _ b (omega (arith, v .1 .0)))
-    go (a ∷ b ∷ c ∷ ns) v q = absurd (v .1 .1)
+-- Two registers fit their fields: these hold them as they are.
+abbrev pub Fit : ℕ → ℕ → Type 0
+Fit first last = (wordField first ≡ first) × (wordField last ≡ last)
+
+pub registers-fit : (first : ℕ) → first < 2 ^ 32 → (last : ℕ) → last < 2 ^ 32 → Fit first last
+registers-fit first h last k = (at-most-within _ first (omega arith), at-most-within _ last (omega arith))

@@ -1,11 +1,11 @@
 -- Laws of tables of templates: a part is read from a table exactly where its text stands, and so is a list of parts. Assumes nothing.
-use mathlib.Core.Path.{_≡_, refl, sym, subst, _∙_}
+use mathlib.Core.Path.{_≡_, refl, sym, ap, subst, _∙_}
 use mathlib.Core.List.{List, [], _∷_, _++_, append-assoc}
 use mathlib.Core.Option.{Option, none, some, Option·some-inj, Option·none-ne-some}
 use Prim.Native.Nat.{ℕ, zero, suc, _≤_, _<_}
 use native.Mathlib.Omega.{arith}
 use lib.ListN.{length, length-append}
-use Rattle.text.specs.Template.{filled, placesOf, bound, Writable, Read, onRead, mapRead, numbersOf, templateIn}
+use Rattle.text.specs.Template.{filled, placesOf, bound, Writable, Read, onRead, mapRead, pieceIn, numbersIn, numbersOf, templateIn}
 use Rattle.text.specs.declared.Numbers.{Numbers}
 use Rattle.text.proofs.Templates.{Parted, template-reads-back, template-stands}
 use Rattle.rounding.specs.Lists.{All}
@@ -61,7 +61,37 @@ on-template C w t q e c =
     let s = template-stands w t (q .value) (q .rest) e in
     subst C (s .value) (of-numbers (placesOf w) (λ ns. t ≡ filled w ns ++ q .rest → C (numbersOf ns)) c (s .numbers) (s .writable) (s .text))
 
+-- A template in two parts reads nothing where its second part reads nothing after the first.
+numbers-later : (u v t : List ℕ) (r : Read (List ℕ)) → numbersIn u t ≡ some r → numbersIn v (r .rest) ≡ none → numbersIn (u ++ v) t ≡ none
+unfolding numbersIn
+numbers-later [] v t r e f = rw (ap (λ (q : Read (List ℕ)). q .rest) (Option·some-inj .0 e)) f
+numbers-later (b ∷ u) v t r e f = go (numbers-later u v) (pieceIn b t) e
+  where
+    go : ((t : List ℕ) (r : Read (List ℕ)) → numbersIn u t ≡ some r → numbersIn v (r .rest) ≡ none → numbersIn (u ++ v) t ≡ none)
+        → (p : Option (Read (List ℕ))) → onRead p (λ ns rest. mapRead (λ ms. ns ++ ms) (numbersIn u rest)) ≡ some r
+        → onRead p (λ ns rest. mapRead (λ ms. ns ++ ms) (numbersIn (u ++ v) rest)) ≡ none
+    go later none e = refl
+    go later (some q) e =
+        on-map (λ r. numbersIn v (r .rest) ≡ none → mapRead (λ ms. q .value ++ ms) (numbersIn (u ++ v) (q .rest)) ≡ none)
+        (λ ms. q .value ++ ms) (numbersIn u (q .rest)) r e (λ m k f. rw (later (q .rest) m k f)) f
+
+pub template-later : (u v t : List ℕ) (r : Read Numbers) → templateIn u t ≡ some r → numbersIn v (r .rest) ≡ none → templateIn (u ++ v) t ≡ none
+unfolding templateIn
+template-later u v t r e f =
+    ap (mapRead numbersOf)
+    (on-map (λ r. numbersIn v (r .rest) ≡ none → numbersIn (u ++ v) t ≡ none) numbersOf (numbersIn u t) r e (λ m k f. numbers-later u v t m k f) f)
+
 -- ---- a table
+
+-- Of two tables the second is tried where the first reads nothing.
+pub one-append : {A : Type 0} (rows more : List (Row A)) (t : List ℕ) → oneOf (rows ++ more) t ≡ orElse (oneOf rows t) (oneOf more t)
+unfolding oneOf
+one-append [] more t = refl
+one-append {A = A} (w ∷ rows) more t = rw (one-append rows more t) (go (mapRead (w .value) (templateIn (w .template) t)))
+  where
+    go : (a : Option (Read A)) → orElse a (orElse (oneOf rows t) (oneOf more t)) ≡ orElse (orElse a (oneOf rows t)) (oneOf more t)
+    go none = refl
+    go (some r) = refl
 
 module _ {A : Type 0} (text : A → List ℕ) (Ok : A → Type 0) where
   -- A row's template, filled with numbers, is the text of what they stand for.

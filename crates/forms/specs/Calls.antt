@@ -35,10 +35,16 @@ use Rattle.forms.specs.declared.Kind.{Kind}
 use Rattle.forms.specs.declared.Kind.the-variants.{NoForm, GridForm, PlantForm, SourceForm, ReportForm}
 use Rattle.forms.specs.declared.Line.{Line}
 
+-- "A meter gains a ratio from 1 to 10,000, written before its sign; left out, it is 1" (document 02, wish 4).
+abbrev pub ratioOf : Option ℕ → ℕ
+ratioOf none = 1
+ratioOf (some ratio) = ratio
+
 -- A register is the binary32 value of its 32 bits ("an IEEE 754 binary32 register in kWh"); every pattern that is not a number is one value.
 abbrev pub meterOf : MeterForm → Meter
-meterOf (whole sign first last) = record { sign = sign; interval = Counts first last }
-meterOf (single sign first last) = record { sign = sign; interval = Singles (record { first = ofBits binary32 first; last = ofBits binary32 last }) }
+meterOf (whole ratio sign first last) = record { ratio = ratioOf ratio; sign = sign; interval = Counts first last }
+meterOf (single ratio sign first last) =
+    record { ratio = ratioOf ratio; sign = sign; interval = Singles (record { first = ofBits binary32 first; last = ofBits binary32 last }) }
 
 -- An entry has four places: the first of the parts, and empty ones. It counts all parts.
 unfoldable pub fourOf : {A : Type 0} → A → List A → List A
@@ -67,6 +73,9 @@ atMost limit n = cond (leb n limit) n limit
 abbrev pub byteField : ℕ → ℕ
 byteField n = atMost 255 n
 
+abbrev pub halfField : ℕ → ℕ
+halfField n = atMost 65535 n
+
 abbrev pub wordField : ℕ → ℕ
 wordField n = atMost 4294967295 n
 
@@ -93,7 +102,7 @@ fittedSupply CaptiveDefault = CaptiveDefault
 fittedSupply (Either S) = Either (byteField S)
 
 abbrev pub fittedLoss : Loss → Loss
-fittedLoss (Measured T) = Measured (atMost 65535 T)
+fittedLoss (Measured T) = Measured (halfField T)
 fittedLoss Default20 = Default20
 fittedLoss Default3 = Default3
 fittedLoss Nothing = Nothing
@@ -110,9 +119,22 @@ abbrev pub fittedPlant : Plant → Plant
 fittedPlant p =
     record { site = byteField (p .site); generation = wordField (p .generation); lines = map fittedLine (p .lines); count = byteField (p .count) }
 
+abbrev pub fittedMeter : Meter → Meter
+fittedMeter m = record { ratio = halfField (m .ratio); sign = m .sign; interval = m .interval }
+
+-- The meter of a form, in the box's fields.
+abbrev pub fittedMeterOf : MeterForm → Meter
+fittedMeterOf m = fittedMeter (meterOf m)
+
 abbrev pub fittedSource : SourceEntry → SourceEntry
 fittedSource e =
-    record { side = e .side; supply = fittedSupply (e .supply); loss = fittedLoss (e .loss); meters = e .meters; count = byteField (e .count) }
+    record {
+      side = e .side;
+      supply = fittedSupply (e .supply);
+      loss = fittedLoss (e .loss);
+      meters = map fittedMeter (e .meters);
+      count = byteField (e .count);
+    }
 
 unfoldable pub fitted : Call → Call
 fitted (enterGrid g) = enterGrid (fittedGrid g)

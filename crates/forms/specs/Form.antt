@@ -1,7 +1,8 @@
--- The forms of a line, as written, and their text (document 01, "The text the program tally reads": "Forms"; document 02, wishes 1 and 2).
+-- The forms of a line, as written, and their text (document 01, "The text the program tally reads": "Forms"; document 02, wishes 1, 2 and 4).
 use Prim.Native.Nat.{ℕ, _^_, _<_, _≤_}
 use mathlib.Core.Path.{_≡_}
 use mathlib.Core.List.{List, [], _∷_, _++_}
+use mathlib.Core.Option.{Option, none, some}
 use lib.ListN.{length}
 use Rattle.rounding.specs.Lists.{All}
 use Rattle.text.specs.Template.{filled}
@@ -18,12 +19,13 @@ use Rattle.emissions.specs.declared.Supply.{Supply}
 use Rattle.emissions.specs.declared.Supply.the-variants.{Combined, GridDefault, Captive, CaptiveDefault, Either}
 use Rattle.emissions.specs.declared.Loss.{Loss}
 use Rattle.emissions.specs.declared.Loss.the-variants.{Nothing, Measured, Default20, Default3}
-use Rattle.forms.specs.Templates.{gridOpening, marginsOpening, weightsPart, plantOpening, sourceOpening, dropSourceOpening, dropPlantOpening, reportOpening, closing, thermalWord, hydroWord, projectWord, leakageWord, baselineWord, combinedPart, gridDefaultPart, captivePart, captiveDefaultPart, eitherPart, lossPart, default20Part, default3Part, nonePart, wholePlusPart, wholeMinusPart, singlePlusPart, singleMinusPart, fuelPart, massPart, volumePart}
+use Rattle.forms.specs.Templates.{gridOpening, marginsOpening, weightsPart, plantOpening, sourceOpening, dropSourceOpening, dropPlantOpening, reportOpening, closing, thermalWord, hydroWord, projectWord, leakageWord, baselineWord, combinedPart, gridDefaultPart, captivePart, captiveDefaultPart, eitherPart, lossPart, default20Part, default3Part, nonePart, wholePlusPart, wholeMinusPart, singlePlusPart, singleMinusPart, ratioWholePlusPart, ratioWholeMinusPart, ratioSinglePlusPart, ratioSingleMinusPart, fuelPart, massPart, volumePart}
 
--- "meters (whole sign first last), (single sign first last)"; a register is its 32 bits.
+-- "meters (whole sign first last), (single sign first last)"; a register is its 32 bits. "A meter gains a ratio .., written before its sign;
+-- left out, it is 1": a ratio that is left out is none, so that a form and its text are one to one.
 pub data MeterForm : Type 0 where
-  whole : Sign → ℕ → ℕ → MeterForm
-  single : Sign → ℕ → ℕ → MeterForm
+  whole : Option ℕ → Sign → ℕ → ℕ → MeterForm
+  single : Option ℕ → Sign → ℕ → ℕ → MeterForm
 
 -- "(grid F thermal|hydro), (plant N S G (fuel Q V C)..) .., (source N side (supply) (loss) meters), (drop source N), (drop plant N), (report)"; and
 -- "(grid margins O B X Y thermal|hydro): the two margins, then their weights".
@@ -64,10 +66,14 @@ lossText Default3 = default3Part
 lossText Nothing = nonePart
 
 abbrev pub meterText : MeterForm → List ℕ
-meterText (whole Plus first last) = filled wholePlusPart (first ∷ last ∷ [])
-meterText (whole Minus first last) = filled wholeMinusPart (first ∷ last ∷ [])
-meterText (single Plus first last) = filled singlePlusPart (first ∷ last ∷ [])
-meterText (single Minus first last) = filled singleMinusPart (first ∷ last ∷ [])
+meterText (whole none Plus first last) = filled wholePlusPart (first ∷ last ∷ [])
+meterText (whole none Minus first last) = filled wholeMinusPart (first ∷ last ∷ [])
+meterText (single none Plus first last) = filled singlePlusPart (first ∷ last ∷ [])
+meterText (single none Minus first last) = filled singleMinusPart (first ∷ last ∷ [])
+meterText (whole (some ratio) Plus first last) = filled ratioWholePlusPart (ratio ∷ first ∷ last ∷ [])
+meterText (whole (some ratio) Minus first last) = filled ratioWholeMinusPart (ratio ∷ first ∷ last ∷ [])
+meterText (single (some ratio) Plus first last) = filled ratioSinglePlusPart (ratio ∷ first ∷ last ∷ [])
+meterText (single (some ratio) Minus first last) = filled ratioSingleMinusPart (ratio ∷ first ∷ last ∷ [])
 
 -- "The forms are (fuel Q V C), (mass Q W) and (volume Q density W)".
 abbrev pub fuelKindText : FuelKind → List ℕ
@@ -124,9 +130,13 @@ LossWritable Default20 = Unit {0}
 LossWritable Default3 = Unit {0}
 LossWritable Nothing = Unit {0}
 
+abbrev pub RatioWritable : Option ℕ → Type 0
+RatioWritable none = Unit {0}
+RatioWritable (some ratio) = Decimal ratio
+
 abbrev pub MeterWritable : MeterForm → Type 0
-MeterWritable (whole sign first last) = Decimal first × Decimal last
-MeterWritable (single sign first last) = (first < 2 ^ 32) × (last < 2 ^ 32)
+MeterWritable (whole ratio sign first last) = RatioWritable ratio × Decimal first × Decimal last
+MeterWritable (single ratio sign first last) = RatioWritable ratio × (first < 2 ^ 32) × (last < 2 ^ 32)
 
 abbrev pub Writable : Form → Type 0
 Writable (grid F kind) = Decimal F

@@ -2,7 +2,7 @@
 -- the text of the forms need be believed.
 use Prim.Native.Nat.{ℕ, zero, suc}
 use mathlib.Core.Bool.{Bool, false, cond}
-use mathlib.Core.List.{List, [], _∷_}
+use mathlib.Core.List.{List, [], _∷_, _++_}
 use mathlib.Core.Option.{Option, none, some}
 use lib.Dec.{leb, eqb}
 use lib.ListN.{length}
@@ -19,7 +19,7 @@ use Rattle.emissions.specs.declared.Supply.{Supply}
 use Rattle.emissions.specs.declared.Supply.the-variants.{Combined, GridDefault, Captive, CaptiveDefault, Either}
 use Rattle.emissions.specs.declared.Loss.{Loss}
 use Rattle.emissions.specs.declared.Loss.the-variants.{Nothing, Measured, Default20, Default3}
-use Rattle.forms.specs.Templates.{gridOpening, marginsOpening, weightsPart, plantOpening, sourceOpening, dropSourceOpening, dropPlantOpening, reportOpening, thermalWord, hydroWord, projectWord, leakageWord, baselineWord, combinedPart, gridDefaultPart, captivePart, captiveDefaultPart, eitherPart, lossPart, default20Part, default3Part, nonePart, wholePlusPart, wholeMinusPart, singlePlusPart, singleMinusPart, fuelPart, massPart, volumePart}
+use Rattle.forms.specs.Templates.{gridOpening, marginsOpening, weightsPart, plantOpening, sourceOpening, dropSourceOpening, dropPlantOpening, reportOpening, thermalWord, hydroWord, projectWord, leakageWord, baselineWord, combinedPart, gridDefaultPart, captivePart, captiveDefaultPart, eitherPart, lossPart, default20Part, default3Part, nonePart, wholePlusPart, wholeMinusPart, singlePlusPart, singleMinusPart, ratioWholePlusPart, ratioWholeMinusPart, ratioSinglePlusPart, ratioSingleMinusPart, fuelPart, massPart, volumePart}
 use Rattle.forms.specs.Form.{lineLimit, MeterForm, whole, single, Form, grid, margins, plant, source, dropSource, dropPlant, report}
 
 -- ---- one of several templates, and any count of parts
@@ -78,13 +78,25 @@ losses =
     ∷ row nonePart (λ n. Nothing)
     ∷ []
 
-unfoldable pub meters : List (Row MeterForm)
-meters =
-    row wholePlusPart (λ n. whole Plus (n .first) (n .second))
-    ∷ row wholeMinusPart (λ n. whole Minus (n .first) (n .second))
-    ∷ row singlePlusPart (λ n. single Plus (n .first) (n .second))
-    ∷ row singleMinusPart (λ n. single Minus (n .first) (n .second))
+-- Meters whose ratio is left out, and those with one.
+unfoldable pub plainMeters : List (Row MeterForm)
+plainMeters =
+    row wholePlusPart (λ n. whole none Plus (n .first) (n .second))
+    ∷ row wholeMinusPart (λ n. whole none Minus (n .first) (n .second))
+    ∷ row singlePlusPart (λ n. single none Plus (n .first) (n .second))
+    ∷ row singleMinusPart (λ n. single none Minus (n .first) (n .second))
     ∷ []
+
+unfoldable pub ratioMeters : List (Row MeterForm)
+ratioMeters =
+    row ratioWholePlusPart (λ n. whole (some (n .first)) Plus (n .second) (n .third))
+    ∷ row ratioWholeMinusPart (λ n. whole (some (n .first)) Minus (n .second) (n .third))
+    ∷ row ratioSinglePlusPart (λ n. single (some (n .first)) Plus (n .second) (n .third))
+    ∷ row ratioSingleMinusPart (λ n. single (some (n .first)) Minus (n .second) (n .third))
+    ∷ []
+
+unfoldable pub meters : List (Row MeterForm)
+meters = plainMeters ++ ratioMeters
 
 unfoldable pub fuels : List (Row FuelLine)
 fuels =

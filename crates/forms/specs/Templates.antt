@@ -96,6 +96,19 @@ singlePlusPart = bytes " (single + % %)"
 abbrev pub singleMinusPart : List ℕ
 singleMinusPart = bytes " (single - % %)"
 
+-- "A meter gains a ratio .., written before its sign; left out, it is 1" (document 02, wish 4).
+abbrev pub ratioWholePlusPart : List ℕ
+ratioWholePlusPart = bytes " (whole # + # #)"
+
+abbrev pub ratioWholeMinusPart : List ℕ
+ratioWholeMinusPart = bytes " (whole # - # #)"
+
+abbrev pub ratioSinglePlusPart : List ℕ
+ratioSinglePlusPart = bytes " (single # + % %)"
+
+abbrev pub ratioSingleMinusPart : List ℕ
+ratioSingleMinusPart = bytes " (single # - % %)"
+
 -- "The forms are (fuel Q V C), (mass Q W) and (volume Q density W)" (document 02, wish 2).
 abbrev pub fuelPart : List ℕ
 fuelPart = bytes " (fuel # # #)"

@@ -7,7 +7,7 @@ ghost use lib.ListN.{length, drop};
 ghost use Rattle.fuel.specs.Fuel.{noLine};
 ghost use Rattle.metering.specs.Energy.{noMeter};
 ghost use Rattle.forms.specs.Reading.{manyOf, meters, fuels};
-ghost use Rattle.forms.specs.Calls.{meterOf, fourOf, fittedLine};
+ghost use Rattle.forms.specs.Calls.{fourOf, fittedMeterOf, fittedLine};
 ghost use Rattle.forms.specs.Steps.{keptAt};
 use crate::part::FuelRead;
 use crate::part::MeterRead;
@@ -90,7 +90,7 @@ fn with_meter(meters: Meters, meter: Meter, next: usize) -> Meters
 
 // Reads meters: as many as stand at a place.
 pub fn read_meters(line: &[u8], at: usize) -> Meters
-    ensures meters { λ r. ⌜ r .meters ≡ fourOf noMeter (map meterOf (manyOf meters (drop at (now (line .entry))) .value)) ⌝ }
+    ensures meters { λ r. ⌜ r .meters ≡ fourOf noMeter (map fittedMeterOf (manyOf meters (drop at (now (line .entry))) .value)) ⌝ }
     ensures count { λ r. ⌜ r .count ≡ length (manyOf meters (drop at (now (line .entry))) .value) ⌝ }
     ensures rest { λ r. ⌜ drop (r .next) (now (line .entry)) ≡ manyOf meters (drop at (now (line .entry))) .rest ⌝ }
 {

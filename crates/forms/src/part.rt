@@ -1,11 +1,32 @@
 // The parts of a form, each at a place of a line (document 01, "The text the program tally reads": "Forms").
 // The templates are those of the crate `text`: # is the place of a decimal, % that of a register.
 ghost use mathlib.Core.Path.{_≡_};
+ghost use mathlib.Core.Option.{some};
 ghost use lib.ListN.{drop};
 ghost use Rattle.text.specs.Template.{mapRead};
 ghost use Rattle.forms.specs.Form.{whole, single};
-ghost use Rattle.forms.specs.Reading.{oneOf, kinds, sides, supplies, losses, meters, fuels};
-ghost use Rattle.forms.specs.Calls.{meterOf, atMost, byteField, wordField, fittedSupply, fittedLoss, fittedLine};
+ghost use Rattle.forms.specs.Reading.{
+  oneOf,
+  kinds,
+  sides,
+  supplies,
+  losses,
+  plainMeters,
+  ratioMeters,
+  meters,
+  fuels,
+};
+ghost use Rattle.forms.specs.Calls.{
+  meterOf,
+  atMost,
+  byteField,
+  halfField,
+  wordField,
+  fittedSupply,
+  fittedLoss,
+  fittedMeterOf,
+  fittedLine,
+};
 ghost use Rattle.forms.specs.Steps.{
   kindMeaning,
   sideMeaning,
@@ -25,7 +46,6 @@ use metering::Meter;
 use metering::Registers;
 use metering::Sign;
 use text::Match;
-use text::Numbers;
 
 // A part of a form at a place: the part and the place after it, or that none stands there.
 pub enum KindRead {
@@ -61,9 +81,12 @@ pub enum FuelRead {
 // The largest numbers of the fields that an entry has.
 const LARGEST_BYTE: u64 = u8::MAX as u64;
 
-const LARGEST_LOSS: u64 = u16::MAX as u64;
+const LARGEST_HALF: u64 = u16::MAX as u64;
 
 const LARGEST_WORD: u64 = u32::MAX as u64;
+
+// The ratio of a meter that is written without one (document 02, wish 4: "left out, it is 1").
+const RATIO_LEFT_OUT: u16 = 1;
 
 // A number, or the largest of its field where it is larger. That is above every limit, and above what weights
 // sum to, so that an entry refuses it alike.
@@ -80,6 +103,12 @@ pub fn byte_field(number: u64) -> u8
     ensures { λ r. ⌜ r ≡ byteField number ⌝ }
 {
     at_most(number, LARGEST_BYTE) as u8
+}
+
+fn half_field(number: u64) -> u16
+    ensures { λ r. ⌜ r ≡ halfField number ⌝ }
+{
+    at_most(number, LARGEST_HALF) as u16
 }
 
 pub fn word_field(number: u64) -> u32
@@ -140,10 +169,7 @@ pub fn read_loss(line: &[u8], at: usize) -> LossRead
     ensures { λ r. ⌜ lossMeaning (now (line .entry)) r ≡ mapRead fittedLoss (oneOf losses (drop at (now (line .entry)))) ⌝ }
 {
     if let Match::Match(numbers, next) = text::read_template(line, at, b" (loss #)") {
-        return LossRead::Found(
-            Loss::Measured(at_most(numbers.first, LARGEST_LOSS) as u16),
-            next,
-        );
+        return LossRead::Found(Loss::Measured(half_field(numbers.first)), next);
     }
     if let Match::Match(_, next) = text::read_template(line, at, b" (default20)") {
         return LossRead::Found(Loss::Default20, next);
@@ -157,43 +183,86 @@ pub fn read_loss(line: &[u8], at: usize) -> LossRead
     LossRead::Missing
 }
 
-fn whole_meter(sign: Sign, numbers: Numbers) -> Meter
-    ensures { λ r. ⌜ r ≡ meterOf (whole sign (numbers .first) (numbers .second)) ⌝ }
+fn whole_meter(ratio: u16, sign: Sign, first: u64, last: u64) -> Meter
+    ensures { λ r. ⌜ r ≡ meterOf (whole (some ratio) sign first last) ⌝ }
 {
     Meter {
+        ratio,
         sign,
-        interval: Interval::Counts(numbers.first, numbers.second),
+        interval: Interval::Counts(first, last),
     }
 }
 
-fn single_meter(sign: Sign, numbers: Numbers) -> Meter
-    ensures { λ r. ⌜ r ≡ meterOf (single sign (wordField (numbers .first)) (wordField (numbers .second))) ⌝ }
+fn single_meter(ratio: u16, sign: Sign, first: u64, last: u64) -> Meter
+    ensures { λ r. ⌜ r ≡ meterOf (single (some ratio) sign (wordField first) (wordField last)) ⌝ }
 {
     Meter {
+        ratio,
         sign,
         interval: Interval::Singles(Registers {
-            first: metering::register(word_field(numbers.first)),
-            last: metering::register(word_field(numbers.second)),
+            first: metering::register(word_field(first)),
+            last: metering::register(word_field(last)),
         }),
     }
 }
 
-pub fn read_meter(line: &[u8], at: usize) -> MeterRead
-    ensures { λ r. ⌜ meterMeaning (now (line .entry)) r ≡ mapRead meterOf (oneOf meters (drop at (now (line .entry)))) ⌝ }
+// A meter whose ratio is left out.
+fn read_plain_meter(line: &[u8], at: usize) -> MeterRead
+    ensures { λ r. ⌜ meterMeaning (now (line .entry)) r ≡ mapRead fittedMeterOf (oneOf plainMeters (drop at (now (line .entry)))) ⌝ }
 {
     if let Match::Match(numbers, next) = text::read_template(line, at, b" (whole + # #)") {
-        return MeterRead::Found(whole_meter(Sign::Plus, numbers), next);
+        let meter = whole_meter(RATIO_LEFT_OUT, Sign::Plus, numbers.first, numbers.second);
+        return MeterRead::Found(meter, next);
     }
     if let Match::Match(numbers, next) = text::read_template(line, at, b" (whole - # #)") {
-        return MeterRead::Found(whole_meter(Sign::Minus, numbers), next);
+        let meter = whole_meter(RATIO_LEFT_OUT, Sign::Minus, numbers.first, numbers.second);
+        return MeterRead::Found(meter, next);
     }
     if let Match::Match(numbers, next) = text::read_template(line, at, b" (single + % %)") {
-        return MeterRead::Found(single_meter(Sign::Plus, numbers), next);
+        let meter = single_meter(RATIO_LEFT_OUT, Sign::Plus, numbers.first, numbers.second);
+        return MeterRead::Found(meter, next);
     }
     if let Match::Match(numbers, next) = text::read_template(line, at, b" (single - % %)") {
-        return MeterRead::Found(single_meter(Sign::Minus, numbers), next);
+        let meter = single_meter(RATIO_LEFT_OUT, Sign::Minus, numbers.first, numbers.second);
+        return MeterRead::Found(meter, next);
     }
     MeterRead::Missing
+}
+
+// A meter with a ratio before its sign.
+fn read_ratio_meter(line: &[u8], at: usize) -> MeterRead
+    ensures { λ r. ⌜ meterMeaning (now (line .entry)) r ≡ mapRead fittedMeterOf (oneOf ratioMeters (drop at (now (line .entry)))) ⌝ }
+{
+    if let Match::Match(numbers, next) = text::read_template(line, at, b" (whole # + # #)") {
+        let ratio = half_field(numbers.first);
+        let meter = whole_meter(ratio, Sign::Plus, numbers.second, numbers.third);
+        return MeterRead::Found(meter, next);
+    }
+    if let Match::Match(numbers, next) = text::read_template(line, at, b" (whole # - # #)") {
+        let ratio = half_field(numbers.first);
+        let meter = whole_meter(ratio, Sign::Minus, numbers.second, numbers.third);
+        return MeterRead::Found(meter, next);
+    }
+    if let Match::Match(numbers, next) = text::read_template(line, at, b" (single # + % %)") {
+        let ratio = half_field(numbers.first);
+        let meter = single_meter(ratio, Sign::Plus, numbers.second, numbers.third);
+        return MeterRead::Found(meter, next);
+    }
+    if let Match::Match(numbers, next) = text::read_template(line, at, b" (single # - % %)") {
+        let ratio = half_field(numbers.first);
+        let meter = single_meter(ratio, Sign::Minus, numbers.second, numbers.third);
+        return MeterRead::Found(meter, next);
+    }
+    MeterRead::Missing
+}
+
+pub fn read_meter(line: &[u8], at: usize) -> MeterRead
+    ensures { λ r. ⌜ meterMeaning (now (line .entry)) r ≡ mapRead fittedMeterOf (oneOf meters (drop at (now (line .entry)))) ⌝ }
+{
+    if let MeterRead::Found(meter, next) = read_plain_meter(line, at) {
+        return MeterRead::Found(meter, next);
+    }
+    read_ratio_meter(line, at)
 }
 
 pub fn read_fuel(line: &[u8], at: usize) -> FuelRead

@@ -16,7 +16,7 @@ use Rattle.rounding.proofs.Tests.{and-both}
 use Rattle.rounding.proofs.Divided.{divided-at-most}
 use Rattle.rounding.proofs.Integers.{Differ}
 use Rattle.metering.specs.Reading.{limit}
-use Rattle.metering.specs.Energy.{allMeters, anyMeter, isAccepted, runsBack, judgedReadings, judgedMeters, settledEnergy, metersRefusal, energyRefusal}
+use Rattle.metering.specs.Energy.{allMeters, anyMeter, hasRatio, isAccepted, runsBack, judgedReadings, judgedMeters, settledEnergy, metersRefusal, energyRefusal}
 use Rattle.metering.specs.declared.Meter.{Meter}
 use Rattle.metering.specs.declared.MetersJudged.{MetersJudged}
 use Rattle.metering.specs.declared.MetersJudged.the-variants as metersJudged
@@ -94,7 +94,7 @@ drop-low last stands n =
 
 meters-low : (dir : Direction) (c : ℕ) (ms : List Meter) → metersRefusal (judgedMeters dir c ms) < 100
 unfolding judgedMeters judgedReadings
-meters-low dir c ms = go (leb 1 c && leb c 4) (not (allMeters isAccepted (take c ms))) (anyMeter runsBack (take c ms)) _ _
+meters-low dir c ms = go (leb 1 c && leb c 4 && allMeters hasRatio (take c ms)) (not (allMeters isAccepted (take c ms))) (anyMeter runsBack (take c ms)) _ _
   where
     go : (a b d : Bool) (x y : ℕ)
         → metersRefusal (cond a (cond b (metersJudged.Refused 3) (cond d (metersJudged.Refused 4) (metersJudged.Read x y))) (metersJudged.Refused 2)) < 100

@@ -1,6 +1,6 @@
 -- Lists of calls with their answers, by computation: demand 3 has reports to speak of, its constants cannot be smaller, and the rules are
 -- told from others that its inequalities would allow. Assumes nothing.
-use Prim.Native.Nat.{ℕ, _+_, _*_, _<_, _≤_}
+use Prim.Native.Nat.{ℕ, _+_, _*_, _^_, _<_, _≤_}
 use mathlib.Core.Path.{_≡_, refl, sym, ap, subst, _∙_}
 use mathlib.Core.Bool.{Bool, true, false, cond, true≢false}
 use mathlib.Core.List.{List, [], _∷_}
@@ -53,12 +53,16 @@ use Rattle.ledger.proofs.Demand3.{claim-at, records-show}
 
 -- ---- how calls and answers are written here
 
--- A whole meter, and a single meter by the bits of its registers.
+-- A whole meter, and a single meter by its ratio and the bits of its registers; without a transformer the ratio is 1.
 abbrev pub counts : Sign → ℕ → ℕ → Meter
-counts s f l = record { sign = s; interval = Counts f l }
+counts s f l = record { ratio = 1; sign = s; interval = Counts f l }
+
+abbrev pub singlesBy : ℕ → Sign → ℕ → ℕ → Meter
+singlesBy ratio s f l =
+    record { ratio = ratio; sign = s; interval = Singles record { first = ofBits binary32 f; last = ofBits binary32 l } }
 
 abbrev pub singles : Sign → ℕ → ℕ → Meter
-singles s f l = record { sign = s; interval = Singles record { first = ofBits binary32 f; last = ofBits binary32 l } }
+singles s f l = singlesBy 1 s f l
 
 -- A source with two meters, and with one.
 abbrev pub source2 : Side → Supply → Loss → Meter → Meter → SourceEntry
@@ -369,6 +373,37 @@ pub three-before-four : run (
     ≡ refusedWith 3 ∷ refusedWith 4 ∷ []
 unfolding run
 three-before-four = refl
+
+-- A ratio outside its range is 2, tested over all meters before 3 of any.
+pub ratio-before-reading : run (
+    enterSource 5 (source2 Project Combined Nothing (singles Plus 0x7fc00000 0x7fc00000) (singlesBy 10001 Plus 0 0))
+    ∷ enterSource 5 (source2 Project Combined Nothing (singles Plus 0x7fc00000 0x7fc00000) (singlesBy 0 Plus 0 0))
+    ∷ enterSource 5 (source2 Project Combined Nothing (singles Plus 0x7fc00000 0x7fc00000) (singlesBy 10000 Plus 0 0))
+    ∷ []
+    )
+    ≡ refusedWith 2 ∷ refusedWith 2 ∷ refusedWith 3 ∷ []
+unfolding run
+ratio-before-reading = refl
+
+-- ---- "A reading's exact value is multiplied by it before rounding"
+
+-- A feeder behind a transformer of 10,000, whose register went from 0 to 8,589,935 ÷ 2^33 kWh, the next above 0.001, on a grid of 10,000,000 mg/kWh.
+abbrev pub behind : Side → SourceEntry
+behind side = source side Combined (Measured 0) (singlesBy 10000 Plus 0 0x3a83126f)
+
+abbrev pub behindCalls : List Call
+behindCalls = thermal 10000000 ∷ enterSource 0 (behind Project) ∷ enterSource 1 (behind Baseline) ∷ report ∷ []
+
+-- E is 10,001 up and 10,000 down, where a register rounded up before the ratio would give 20,000. The exact value of a side is 8,589,935 ÷ 2^33 kWh
+-- × 10,000 × 10 kg/kWh.
+pub ratio-before-rounding : (energyOf (behind Project) ≡ 10001)
+    × (energyOf (behind Baseline) ≡ 10000)
+    × Is (exactSide (stands behindCalls) Project) 858993500 (2 ^ 33)
+    × Is (exactSide (stands behindCalls) Baseline) 858993500 (2 ^ 33)
+    × (run behindCalls
+    ≡ ok ∷ ok ∷ ok ∷ reported (record { project = totals 1 100010 1; leakage = zeros; baseline = totals 0 100000 1; reduction = negsuc 0 }) ∷ [])
+unfolding stands
+ratio-before-rounding = (refl, refl, (refl, refl), (refl, refl), refl)
 
 -- ---- an exact value below zero
 

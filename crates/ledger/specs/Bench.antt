@@ -13,8 +13,8 @@ use Rattle.rounding.specs.Outcome.{Outcome, refused, given}
 use Rattle.emissions.specs.Factor.{captiveJudged}
 use Rattle.emissions.specs.Figure.{energyWithLosses}
 
--- What a row says: a register's watt-hours down and up, or their refusal; a fuel line's milligrams; a captive factor of so many milligrams over so many kWh,
--- down and up; a loss T on an energy E, down and up.
+-- What a row says: a register's watt-hours without a transformer, by ratio 1, down and up, or their refusal; a fuel line's milligrams; a captive
+-- factor of so many milligrams over so many kWh, down and up; a loss T on an energy E, down and up.
 pub data Row : Type 0 where
   register : ℕ → Outcome ℕ → Outcome ℕ → Row
   fuelLine : FuelLine → ℕ → Row
@@ -22,7 +22,7 @@ pub data Row : Type 0 where
   losses : ℕ → ℕ → ℕ → ℕ → Row
 
 abbrev pub Right : Row → Type 0
-Right (register bits down up) = (wattHours Down (Single (ofBits binary32 bits)) ≡ down) × (wattHours Up (Single (ofBits binary32 bits)) ≡ up)
+Right (register bits down up) = (wattHours Down 1 (Single (ofBits binary32 bits)) ≡ down) × (wattHours Up 1 (Single (ofBits binary32 bits)) ≡ up)
 Right (fuelLine l mg) = (roundedMilligrams Down l ≡ mg) × (roundedMilligrams Up l ≡ mg)
 Right (captive mg G down up) = (captiveJudged Down mg G ≡ down) × (captiveJudged Up mg G ≡ up)
 Right (losses E T down up) = (energyWithLosses Down E T ≡ down) × (energyWithLosses Up E T ≡ up)

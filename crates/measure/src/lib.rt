@@ -243,9 +243,10 @@ fn singles(first: u32, last: u32) -> Interval {
     })
 }
 
-// A source with four single meters.
-fn four_singles(first: u32, last: u32) -> SourceEntry {
+// A source with four single meters, all by one ratio.
+fn four_singles(first: u32, last: u32, ratio: u32) -> SourceEntry {
     let meter = Meter {
+        ratio: (ratio % 0x1_0000) as u16,
         sign: Sign::Plus,
         interval: singles(first, last),
     };
@@ -269,9 +270,15 @@ pub extern "C" fn measure_new(number: u32) -> u64 {
 
 // So many entries of a source with four single meters, each on what the one before left.
 #[no_mangle]
-pub extern "C" fn owner_source(words: &[u32], times: u32, first: u32, last: u32) -> u64 {
+pub extern "C" fn owner_source(
+    words: &[u32],
+    times: u32,
+    first: u32,
+    last: u32,
+    ratio: u32,
+) -> u64 {
     let mut ledger = full(words);
-    let entry = four_singles(first, last);
+    let entry = four_singles(first, last, ratio);
     let mut sum: u64 = 0;
     let mut i: u32 = 0;
     while i < times {
@@ -313,7 +320,7 @@ pub extern "C" fn measure_report(words: &[u32], number: u32, times: u32) -> u64 
 // A call of the functions below: an entry of the grid (0), of a plant (1) or of a source (2), a drop of a plant
 // (3) or of a source (4), or a report. Each field of an entry is a decimal digit of `fields`, from the last one
 // on: of a grid its kind, its form and, of two digits each, its weights, of a plant its site and count, of a
-// source its side, supply, site, loss, count and meters.
+// source its side, supply, site, loss, count and meters; the digits before these are the meters' ratio.
 struct Call {
     kind: u32,
     number: u8,
@@ -391,8 +398,9 @@ fn any_loss(kind: u32) -> Loss {
 }
 
 // A single meter where the kind is odd, else a whole one; from 4 on it is taken from the source's energy.
-fn any_meter(kind: u32, first: u32, last: u32) -> Meter {
+fn any_meter(kind: u32, ratio: u32, first: u32, last: u32) -> Meter {
     Meter {
+        ratio: (ratio % 0x1_0000) as u16,
         sign: if kind < 4 { Sign::Plus } else { Sign::Minus },
         interval: if kind % 2 == 1 {
             singles(first, last)
@@ -404,8 +412,9 @@ fn any_meter(kind: u32, first: u32, last: u32) -> Meter {
 
 fn source_entry(call: Call) -> SourceEntry {
     let fields = call.fields;
-    let one = any_meter(fields / 100_000 % 2, call.first, call.last);
-    let other = any_meter(fields / 100_000 % 10 / 2, call.first, call.last);
+    let ratio = fields / 1_000_000;
+    let one = any_meter(fields / 100_000 % 2, ratio, call.first, call.last);
+    let other = any_meter(fields / 100_000 % 10 / 2, ratio, call.first, call.last);
     SourceEntry {
         side: side(fields % 10),
         count: (fields / 10_000 % 10) as u8,

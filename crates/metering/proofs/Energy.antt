@@ -1,6 +1,6 @@
 -- A source's meters: what one meter and a list of them give, and how near the energy is to the exact one. Assumes nothing.
 use mathlib.Core.Path.{_≡_, refl, sym, ap, _∙_, subst}
-use mathlib.Core.Bool.{Bool, true, false, not, cond, _&&_, _||_}
+use mathlib.Core.Bool.{Bool, true, false, not, cond, _&&_, _||_, true≢false}
 use mathlib.Core.List.{List, [], _∷_, map}
 use Prim.Native.Nat.{ℕ, suc, _+_, _-_, _*_, _≤_, _<_}
 use native.Mathlib.Nat.{add-assoc, add-zero, zero-add, sub-zero, mul-lt-mul-of-pos-right}
@@ -14,13 +14,12 @@ use Rattle.rounding.specs.declared.Direction.{Direction}
 use Rattle.rounding.specs.Outcome.{given}
 use Rattle.rounding.specs.Divided.{divided, opposite, sum}
 use Rattle.rounding.specs.Ratio.{_÷_, whole, Conservative}
-use Rattle.rounding.specs.Lists.{All}
-use Rattle.rounding.proofs.Ratio.{all-then, sum-conservative, less-conservative}
+use Rattle.rounding.proofs.Ratio.{all-of, sum-conservative, less-conservative}
 use Rattle.rounding.proofs.Tests.{and-both, ltb-kept}
-use Rattle.metering.specs.Reading.{unit, limit, exact, accepted, wattHours}
-use Rattle.metering.specs.Energy.{firstOf, lastOf, addingOf, takingOf, adding, taking, isAccepted, runsBack, allMeters, anyMeter}
+use Rattle.metering.specs.Reading.{unit, limit, exactBy, accepted, wattHours}
+use Rattle.metering.specs.Energy.{firstOf, lastOf, addingOf, takingOf, adding, taking, hasRatio, isAccepted, runsBack, allMeters, anyMeter}
 use Rattle.metering.specs.Energy.{exactEnergy, roundedAdding, roundedTaking, judgedReadings, judgedMeters, settledEnergy}
-use Rattle.metering.specs.Steps.{meterRead, metersRead}
+use Rattle.metering.specs.Steps.{isRead, meterRead, metersRead}
 use Rattle.metering.specs.declared.Reading.{Reading}
 use Rattle.metering.specs.declared.Sign.{Sign}
 use Rattle.metering.specs.declared.Sign.the-variants.{Plus, Minus}
@@ -30,7 +29,7 @@ use Rattle.metering.specs.declared.MeterRead.the-variants.{Refused, Move
 use Rattle.metering.specs.declared.MetersJudged.{MetersJudged}
 use Rattle.metering.specs.declared.MetersJudged.the-variants as metersJudged
 use Rattle.metering.specs.declared.EnergyJudged.the-variants as energyJudged
-use Rattle.metering.proofs.Readings.{unit-above-zero, rounded, was-rounded, rounded-within, reading-conservative}
+use Rattle.metering.proofs.Readings.{unit-above-zero, ratio-above-zero, was-rounded, rounded-within, reading-conservative}
 
 and-swap : (a b : Bool) → (a && b) ≡ (b && a)
 and-swap true true = refl
@@ -40,51 +39,74 @@ and-swap false false = refl
 
 -- ---- one meter
 
+-- One factor that is not 0 keeps the order of two values.
+pub order-by : (k l f : ℕ) → 0 < k → ltb l f ≡ ltb (l * k) (f * k)
+order-by k l f p = ltb-kept (λ (n : ℕ). n * k) (λ a b h. mul-lt-mul-of-pos-right h p) l f
+
 -- Of whole readings the order is that of the counts.
 pub counts-order : (l f : ℕ) → ltb l f ≡ ltb (l * unit) (f * unit)
-counts-order l f = ltb-kept (λ (n : ℕ). n * unit) (λ a b h. mul-lt-mul-of-pos-right h unit-above-zero) l f
+counts-order l f = order-by unit l f unit-above-zero
 
 -- Both readings of a meter are accepted where the one that adds and the one that is taken are.
-accepted-both : (m : Meter) → isAccepted m ≡ (accepted (adding m) && accepted (taking m))
-accepted-both m = go (m .sign) (accepted (firstOf (m .interval))) (accepted (lastOf (m .interval))) refl refl
+accepted-both : (m : Meter) → isAccepted m ≡ (accepted (m .ratio) (adding m) && accepted (m .ratio) (taking m))
+accepted-both m = go (m .sign) (accepted (m .ratio) (firstOf (m .interval))) (accepted (m .ratio) (lastOf (m .interval))) refl refl
   where
-    go : (s : Sign) (f l : Bool) → accepted (firstOf (m .interval)) ≡ f → accepted (lastOf (m .interval)) ≡ l
-        → (f && l) ≡ (accepted (addingOf s (m .interval)) && accepted (takingOf s (m .interval)))
+    go : (s : Sign) (f l : Bool) → accepted (m .ratio) (firstOf (m .interval)) ≡ f → accepted (m .ratio) (lastOf (m .interval)) ≡ l
+        → (f && l) ≡ (accepted (m .ratio) (addingOf s (m .interval)) && accepted (m .ratio) (takingOf s (m .interval)))
     go Plus f l p q = and-swap f l ∙ sym (rw (p, q))
     go Minus f l p q = sym (rw (p, q))
 
-both-accepted : (m : Meter) → isAccepted m ≡ true → (accepted (adding m) ≡ true) × (accepted (taking m) ≡ true)
-both-accepted m h = and-both (accepted (adding m)) (accepted (taking m)) (sym (accepted-both m) ∙ h)
+pub both-accepted : (m : Meter) → isAccepted m ≡ true → (accepted (m .ratio) (adding m) ≡ true) × (accepted (m .ratio) (taking m) ≡ true)
+both-accepted m h = and-both (accepted (m .ratio) (adding m)) (accepted (m .ratio) (taking m)) (sym (accepted-both m) ∙ h)
+
+-- The ratio of a meter that is read is not 0.
+pub read-ratio : (m : Meter) → isRead m ≡ true → 0 < m .ratio
+read-ratio m h = ratio-above-zero (m .ratio) (and-both (hasRatio m) (isAccepted m) h .0)
 
 module _ (dir : Direction) (m : Meter) where
-  abbrev moved : MeterRead
-  moved = Moved (divided dir (exact (adding m)) unit) (divided (opposite dir) (exact (taking m)) unit) (runsBack m)
+  abbrev adds : ℕ
+  adds = divided dir (exactBy (m .ratio) (adding m)) unit
 
-  pub meter-refused : (accepted (adding m) && accepted (taking m)) ≡ false → Refused ≡ meterRead dir m
-  meter-refused h = sym (ap (λ (t : Bool). cond t moved Refused) (accepted-both m ∙ h))
+  abbrev takes : ℕ
+  takes = divided (opposite dir) (exactBy (m .ratio) (taking m)) unit
+
+  abbrev readIf : Bool → MeterRead
+  readIf t = cond t (Moved adds takes (runsBack m)) Refused
+
+  -- A reading that is accepted where the meter is, and is refused.
+  pub meter-refused : (r : Reading) → (isAccepted m ≡ true → accepted (m .ratio) r ≡ true) → (hasRatio m && accepted (m .ratio) r) ≡ false
+      → Refused ≡ meterRead dir m
+  meter-refused r k h = sym (ap readIf (go (hasRatio m) (isAccepted m) (accepted (m .ratio) r) k h))
+    where
+      go : (f s t : Bool) → (s ≡ true → t ≡ true) → (f && t) ≡ false → (f && s) ≡ false
+      go true true t k h = absurd (true≢false (sym (k refl) ∙ h))
+      go true false t k h = refl
+      go false s t k h = refl
 
   -- What the two rounded readings say of the meter.
-  module _ (a t : ℕ) (p : wattHours dir (adding m) ≡ given a) (q : wattHours (opposite dir) (taking m) ≡ given t) where
-    pub both-given : isAccepted m ≡ true
-    both-given = accepted-both m ∙ rw (was-rounded dir (adding m) a p .0, was-rounded (opposite dir) (taking m) t q .0)
+  module _ (a t : ℕ) (p : wattHours dir (m .ratio) (adding m) ≡ given a) (q : wattHours (opposite dir) (m .ratio) (taking m) ≡ given t) where
+    pub both-given : isRead m ≡ true
+    both-given =
+        let x = was-rounded dir (m .ratio) (adding m) a p in
+        let y = was-rounded (opposite dir) (m .ratio) (taking m) t q in
+        ap (_&&_ (hasRatio m)) (accepted-both m) ∙ rw (x .0, x .1, y .1)
 
     pub meter-moved : Moved a t (runsBack m) ≡ meterRead dir m
     meter-moved =
-        sym (ap (λ (s : Bool). cond s moved Refused) both-given
-        ∙ ap (λ (n : ℕ). Moved n (divided (opposite dir) (exact (taking m)) unit) (runsBack m)) (was-rounded dir (adding m) a p .1)
-        ∙ ap (λ (n : ℕ). Moved a n (runsBack m)) (was-rounded (opposite dir) (taking m) t q .1))
+        sym (ap readIf both-given
+        ∙ ap (λ (n : ℕ). Moved n takes (runsBack m)) (was-rounded dir (m .ratio) (adding m) a p .2)
+        ∙ ap (λ (n : ℕ). Moved a n (runsBack m)) (was-rounded (opposite dir) (m .ratio) (taking m) t q .2))
 
   -- Each of the two is within the limit.
   pub meter-within : (a t : ℕ) (b : Bool) → meterRead dir m ≡ Moved a t b → (a ≤ limit) × (t ≤ limit)
   meter-within a t b e =
-      let w = go (isAccepted m) e in
-      let p = both-accepted m (w .0) in (
-        subst (λ (n : ℕ). n ≤ limit) (w .1) (rounded-within dir (adding m) (p .0)),
-        subst (λ (n : ℕ). n ≤ limit) (w .2) (rounded-within (opposite dir) (taking m) (p .1)),
+      let w = go (isRead m) e in
+      let p = both-accepted m (and-both (hasRatio m) (isAccepted m) (w .0) .1) in (
+        subst (λ (n : ℕ). n ≤ limit) (w .1) (rounded-within dir (m .ratio) (adding m) (p .0)),
+        subst (λ (n : ℕ). n ≤ limit) (w .2) (rounded-within (opposite dir) (m .ratio) (taking m) (p .1)),
       )
     where
-      go : (s : Bool) → cond s moved Refused ≡ Moved a t b
-          → (s ≡ true) × (divided dir (exact (adding m)) unit ≡ a) × (divided (opposite dir) (exact (taking m)) unit ≡ t)
+      go : (s : Bool) → readIf s ≡ Moved a t b → (s ≡ true) × (adds ≡ a) × (takes ≡ t)
       go true h = (refl, cc, cc)
       go false h = (cc, cc, cc)
 
@@ -99,8 +121,8 @@ joined Refused r = Refused
 meters-cons : (dir : Direction) (m : Meter) (ms : List Meter) → metersRead dir (m ∷ ms) ≡ joined (meterRead dir m) (metersRead dir ms)
 unfolding allMeters anyMeter roundedAdding roundedTaking sum
 meters-cons dir m ms =
-    go (isAccepted m) (allMeters isAccepted ms) (divided dir (exact (adding m)) unit) (roundedAdding dir ms)
-    (divided (opposite dir) (exact (taking m)) unit) (roundedTaking dir ms) (runsBack m) (anyMeter runsBack ms)
+    go (isRead m) (allMeters isRead ms) (adds dir m) (roundedAdding dir ms) (takes dir m) (roundedTaking dir ms)
+    (runsBack m) (anyMeter runsBack ms)
   where
     go : (s u : Bool) (x X y Y : ℕ) (z Z : Bool)
         → cond (s && u) (Moved (x + X) (y + Y) (z || Z)) Refused ≡ joined (cond s (Moved x y z) Refused) (cond u (Moved X Y Z) Refused)
@@ -178,6 +200,27 @@ module _
         ∙ ap (λ (r : MeterRead). joined (Moved a t b) (joined r (left dir ms n (i + 1)))) u
         ∙ joined-assoc a t b c x z (left dir ms n (i + 1))
 
+-- ---- the ratios of a list of meters
+
+-- Whether the meters from i on, of the first n, have their ratios in range.
+abbrev pub ratiosLeft : List Meter → ℕ → ℕ → Bool
+ratiosLeft ms n i = allMeters hasRatio (take (n - i) (drop i ms))
+
+pub ratios-first : (ms : List Meter) (n : ℕ) → allMeters hasRatio (take n ms) ≡ ratiosLeft ms n 0
+ratios-first ms n = ap (λ (k : ℕ). allMeters hasRatio (take k ms)) (sym (sub-zero n))
+
+pub ratios-turn : (ms : List Meter) (n i : ℕ) (d : Meter) → i < n → n ≤ length ms
+    → ratiosLeft ms n i ≡ (hasRatio (getD ms i d) && ratiosLeft ms n (i + 1))
+unfolding allMeters
+ratios-turn ms n i d h k = ap (allMeters hasRatio) (rest ms n i d h k)
+
+pub ratios-none : (ms : List Meter) (n i : ℕ) → n ≤ i → ratiosLeft ms n i ≡ true
+unfolding allMeters
+ratios-none ms n i h = ap (λ (k : ℕ). allMeters hasRatio (take k (drop i ms))) (none n i h)
+  where
+    none : (n i : ℕ) → n ≤ i → n - i ≡ 0
+    none n i h = omega arith
+
 -- ---- the judgement
 
 abbrev pub judgedOf : MeterRead → MetersJudged
@@ -185,9 +228,23 @@ judgedOf Refused = metersJudged.Refused 3
 judgedOf (Moved a t true) = metersJudged.Refused 4
 judgedOf (Moved a t false) = metersJudged.Read a t
 
-pub judged-by-reads : (dir : Direction) (ms : List Meter) → judgedOf (metersRead dir ms) ≡ judgedReadings dir ms
+-- All meters are read where all ratios are in range and all readings are accepted.
+all-read : (ms : List Meter) → allMeters isRead ms ≡ (allMeters hasRatio ms && allMeters isAccepted ms)
+unfolding allMeters
+all-read [] = refl
+all-read (m ∷ ms) = ap (_&&_ (isRead m)) (all-read ms) ∙ go (hasRatio m) (isAccepted m) (allMeters hasRatio ms) (allMeters isAccepted ms)
+  where
+    go : (a b c d : Bool) → ((a && b) && (c && d)) ≡ ((a && c) && (b && d))
+    go true true c d = refl
+    go true false true d = refl
+    go true false false d = refl
+    go false b c d = refl
+
+-- Of ratios in their range.
+pub judged-by-reads : (dir : Direction) (ms : List Meter) → allMeters hasRatio ms ≡ true → judgedOf (metersRead dir ms) ≡ judgedReadings dir ms
 unfolding judgedReadings
-judged-by-reads dir ms = go (allMeters isAccepted ms) (anyMeter runsBack ms) (roundedAdding dir ms) (roundedTaking dir ms)
+judged-by-reads dir ms f =
+    rw (all-read ms, f) (go (allMeters isAccepted ms) (anyMeter runsBack ms) (roundedAdding dir ms) (roundedTaking dir ms))
   where
     go : (s u : Bool) (x y : ℕ)
         → judgedOf (cond s (Moved x y u) Refused)
@@ -198,23 +255,24 @@ judged-by-reads dir ms = go (allMeters isAccepted ms) (anyMeter runsBack ms) (ro
 
 -- ---- the energy
 
--- Where sums are read, there are at most four meters, the sums are those of the first n, and all of these are accepted.
+-- Where sums are read, there are at most four meters, and the sums are those of the first n.
 pub was-read : (dir : Direction) (n : ℕ) (ms : List Meter) (a t : ℕ) → judgedMeters dir n ms ≡ metersJudged.Read a t
-    → (leb n 4 ≡ true) × (roundedAdding dir (take n ms) ≡ a) × (roundedTaking dir (take n ms) ≡ t) × (allMeters isAccepted (take n ms) ≡ true)
+    → (leb n 4 ≡ true) × (roundedAdding dir (take n ms) ≡ a) × (roundedTaking dir (take n ms) ≡ t)
 unfolding judgedMeters judgedReadings
 was-read dir n ms a t e =
-    go (leb 1 n) (leb n 4) (allMeters isAccepted (take n ms)) (anyMeter runsBack (take n ms))
+    go (leb 1 n) (leb n 4) (allMeters hasRatio (take n ms)) (allMeters isAccepted (take n ms)) (anyMeter runsBack (take n ms))
     (roundedAdding dir (take n ms)) (roundedTaking dir (take n ms)) e
   where
-    go : (p q s u : Bool) (x y : ℕ)
-        → cond (p && q) (cond (not s) (metersJudged.Refused 3) (cond u (metersJudged.Refused 4) (metersJudged.Read x y))) (metersJudged.Refused 2)
+    go : (p q f s u : Bool) (x y : ℕ)
+        → cond (p && q && f) (cond (not s) (metersJudged.Refused 3) (cond u (metersJudged.Refused 4) (metersJudged.Read x y))) (metersJudged.Refused 2)
         ≡ metersJudged.Read a t
-        → (q ≡ true) × (x ≡ a) × (y ≡ t) × (s ≡ true)
-    go true true true false x y r = (refl, cc, cc, refl)
-    go true true true true x y r = (refl, cc, cc, refl)
-    go true true false u x y r = (refl, cc, cc, cc)
-    go true false s u x y r = (cc, cc, cc, cc)
-    go false q s u x y r = (cc, cc, cc, cc)
+        → (q ≡ true) × (x ≡ a) × (y ≡ t)
+    go true true true true true x y r = (refl, cc, cc)
+    go true true true true false x y r = (refl, cc, cc)
+    go true true true false u x y r = (refl, cc, cc)
+    go true true false s u x y r = (refl, cc, cc)
+    go true false f s u x y r = (cc, cc, cc)
+    go false q f s u x y r = (cc, cc, cc)
 
 -- Where an energy is accepted, it is the difference of the sums, within its limit.
 pub was-settled : (a t E : ℕ) → settledEnergy a t ≡ energyJudged.Accepted E → (E + t ≡ a) × (E ≤ limit)
@@ -242,25 +300,14 @@ taken-length n k xs h = simp length-take (omega arith)
 
 -- ---- how near the energy is
 
--- What holds of all meters holds of each.
-all-each : (p : Meter → Bool) (ms : List Meter) → allMeters p ms ≡ true → All (λ (m : Meter). p m ≡ true) ms
-unfolding allMeters
-all-each p [] h = tt
-all-each p (m ∷ ms) h = let k = and-both (p m) (allMeters p ms) h in (k .0, all-each p ms (k .1))
-
 -- One reading of each of at most four meters, each less than 1 Wh off: their sum is less than 4 Wh off.
 readings-conservative : (dir : Direction) (reading : Meter → Reading) (ms : List Meter) → length ms ≤ 4
-    → All (λ (m : Meter). accepted (reading m) ≡ true) ms
-    → Conservative dir (sum (map (λ (m : Meter). divided dir (exact (reading m)) unit) ms))
-    (sum (map (λ (m : Meter). exact (reading m)) ms) ÷ unit) (whole 4)
-readings-conservative dir reading ms few h =
-    sum-conservative dir unit 4 unit-above-zero (omega arith) value (λ (m : Meter). exact (reading m)) ms few (all-then near ms h)
-  where
-    value : Meter → ℕ
-    value m = divided dir (exact (reading m)) unit
-
-    near : (m : Meter) → accepted (reading m) ≡ true → Conservative dir (value m) (exact (reading m) ÷ unit) (whole 1)
-    near m k = reading-conservative dir (reading m) (value m) (sym (rounded dir (reading m) (value m) k refl))
+    → Conservative dir (sum (map (λ (m : Meter). divided dir (exactBy (m .ratio) (reading m)) unit) ms))
+    (sum (map (λ (m : Meter). exactBy (m .ratio) (reading m)) ms) ÷ unit) (whole 4)
+readings-conservative dir reading ms few =
+    sum-conservative dir unit 4 unit-above-zero (omega arith) (λ (m : Meter). divided dir (exactBy (m .ratio) (reading m)) unit)
+    (λ (m : Meter). exactBy (m .ratio) (reading m)) ms few
+    (all-of (λ (m : Meter). reading-conservative dir (m .ratio) (reading m)) ms)
 
 -- An accepted energy stands on the safe side of the exact one, and is off by less than 8 Wh: 4 by what adds and 4 by what is taken.
 pub energy-conservative : (dir : Direction) (n : ℕ) (ms : List Meter) (a t E : ℕ)
@@ -270,11 +317,8 @@ unfolding exactEnergy roundedAdding roundedTaking
 energy-conservative dir n ms a t E r s =
     let w = was-read dir n ms a t r in
     let few = taken-length n 4 ms (leb-true n 4 (w .0)) in
-    let each = all-then both-accepted (take n ms) (all-each isAccepted (take n ms) (w .3)) in
-    let x = sum (map (λ (m : Meter). exact (adding m)) (take n ms)) in
-    let y = sum (map (λ (m : Meter). exact (taking m)) (take n ms)) in
+    let x = sum (map (λ (m : Meter). exactBy (m .ratio) (adding m)) (take n ms)) in
+    let y = sum (map (λ (m : Meter). exactBy (m .ratio) (taking m)) (take n ms)) in
     less-conservative dir E a t x y unit 4 4 (was-settled a t E s .0)
-    (subst (λ (v : ℕ). Conservative dir v (x ÷ unit) (whole 4)) (w .1)
-    (readings-conservative dir adding (take n ms) few (all-then (λ m k. k .0) (take n ms) each)))
-    (subst (λ (v : ℕ). Conservative (opposite dir) v (y ÷ unit) (whole 4)) (w .2)
-    (readings-conservative (opposite dir) taking (take n ms) few (all-then (λ m k. k .1) (take n ms) each)))
+    (subst (λ (v : ℕ). Conservative dir v (x ÷ unit) (whole 4)) (w .1) (readings-conservative dir adding (take n ms) few))
+    (subst (λ (v : ℕ). Conservative (opposite dir) v (y ÷ unit) (whole 4)) (w .2) (readings-conservative (opposite dir) taking (take n ms) few))

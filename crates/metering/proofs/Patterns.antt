@@ -159,15 +159,15 @@ below-at b w h = elim (number-or-not b) [
 
 -- ---- what is accepted
 
-pub no-number-refused : (v : Float) → isReadableRegister v ≡ false → accepted (Single v) ≡ false
-no-number-refused v h = ap (λ (t : Bool). t && leb (exactRegister v) (limit * unit)) h
+pub no-number-refused : (ratio : ℕ) (v : Float) → isReadableRegister v ≡ false → accepted ratio (Single v) ≡ false
+no-number-refused ratio v h = ap (λ (t : Bool). t && leb (exactRegister v * ratio) (limit * unit)) h
 
--- A pattern from 0 is accepted by its magnitude.
-pub accepted-at : (b : ℕ) → b ≤ 2147483648 → fieldOf b < 255
-    → accepted (Single (ofBits binary32 b)) ≡ leb (magnitude (fieldOf b) (digitsOf b)) (limit * unit)
-accepted-at b h l =
-    ap (λ (t : Bool). t && leb (exactRegister (ofBits binary32 b)) (limit * unit)) (number-at b h l)
-    ∙ ap (λ (n : ℕ). leb n (limit * unit)) (exact-at b l)
+-- A pattern from 0 is accepted by its magnitude times the ratio.
+pub accepted-at : (ratio b : ℕ) → b ≤ 2147483648 → fieldOf b < 255
+    → accepted ratio (Single (ofBits binary32 b)) ≡ leb (magnitude (fieldOf b) (digitsOf b) * ratio) (limit * unit)
+accepted-at ratio b h l =
+    ap (λ (t : Bool). t && leb (exactRegister (ofBits binary32 b) * ratio) (limit * unit)) (number-at b h l)
+    ∙ ap (λ (n : ℕ). leb (n * ratio) (limit * unit)) (exact-at b l)
 
 -- From field 154 a magnitude is above the limit. The unit is a variable: `omega` takes no number of more than 38 digits.
 magnitude-beyond : (x t : ℕ) → 153 < x → limit * unit < magnitude x t
@@ -186,11 +186,15 @@ magnitude-beyond (suc x) t h =
     over : (a u : ℕ) → 0 < u → limit < 1000 * (a * 16) → limit * u < 1000 * (a * (16 * u))
     over a u p h = omega (arith, mul-lt-mul-of-pos-right h p)
 
-pub beyond-at : (b : ℕ) → b ≤ 2147483648 → 153 < fieldOf b → accepted (Single (ofBits binary32 b)) ≡ false
-beyond-at b h k = elim (number-or-not b) [
-  | inl l ↦ accepted-at b h l ∙ lt-leb _ _ (magnitude-beyond (fieldOf b) (digitsOf b) k)
-  | inr e ↦ no-number-refused (ofBits binary32 b) e
+-- So is its product with every ratio.
+pub beyond-at : (ratio b : ℕ) → 1 ≤ ratio → b ≤ 2147483648 → 153 < fieldOf b → accepted ratio (Single (ofBits binary32 b)) ≡ false
+beyond-at ratio b p h k = elim (number-or-not b) [
+  | inl l ↦ accepted-at ratio b h l ∙ lt-leb _ _ (more (limit * unit) _ (magnitude-beyond (fieldOf b) (digitsOf b) k))
+  | inr e ↦ no-number-refused ratio (ofBits binary32 b) e
 ]
+  where
+    more : (m n : ℕ) → m < n → m < n * ratio
+    more m n l = omega (arith, mul-le-mul-left n p)
 
 -- ---- what a test of a float with itself says
 
@@ -200,12 +204,12 @@ no-nan nan h = absurd (true≢false (sym nan-differs ∙ h))
 no-nan (inf s) h = tt
 no-nan (fin s m e) h = tt
 
-pub nan-refused : (x : Float) → ne x x ≡ true → accepted (Single x) ≡ false
+pub nan-refused : (ratio : ℕ) (x : Float) → ne x x ≡ true → accepted ratio (Single x) ≡ false
 unfolding isReadableRegister
-nan-refused x h = no-number-refused x (ap isReadableRegister (differs-from-itself x (subst T (sym h) tt)))
+nan-refused ratio x h = no-number-refused ratio x (ap isReadableRegister (differs-from-itself x (subst T (sym h) tt)))
 
-pub accepted-number : (x : Float) → accepted (Single x) ≡ true → isReadableRegister x ≡ true
-accepted-number x h = and-both (isReadableRegister x) _ h .0
+pub accepted-number : (ratio : ℕ) (x : Float) → accepted ratio (Single x) ≡ true → isReadableRegister x ≡ true
+accepted-number ratio x h = and-both (isReadableRegister x) _ h .0
 
 pub number-no-nan : (x : Float) → isReadableRegister x ≡ true → T (not (isNan x))
 unfolding isNan isReadableRegister

@@ -2,7 +2,7 @@
 use mathlib.Core.Path.{_≡_, refl, sym, ap, _∙_}
 use mathlib.Core.Logic.{_⊎_, inl, inr, _≢_}
 use Prim.Native.Nat.{ℕ, zero, suc, _+_, _-_, _*_, _/_, _%_, _^_, _≤_, _<_}
-use native.Mathlib.Nat.{div-add-mod', div-eq-of-lt, div-mul-le-self, mod-eq-of-lt, lt-of-lt-of-le, lt-of-le-of-lt}
+use native.Mathlib.Nat.{div-add-mod', div-eq-of-lt, div-mul-le-self, mod-eq-of-lt, mul-le-mul-right, lt-of-lt-of-le, lt-of-le-of-lt}
 use native.Mathlib.Omega.{arith}
 use lib.Pow.{pow-pos, pow-mono, pow-add}
 use Rattle.rounding.specs.declared.Direction.{Direction}
@@ -30,7 +30,7 @@ Significand field digits s = ((field ≡ 0) × (s ≡ digits)) ⊎ ((field ≢ 0
 abbrev pub Shift : ℕ → ℕ → Type 0
 Shift field k = ((field < 90) × (k ≡ 63)) ⊎ ((90 ≤ field) × (k ≡ 153 - field))
 
-pub significand-bound : (field digits s : ℕ) → digits < 8388608 → Significand field digits s → s < 16777216
+significand-bound : (field digits s : ℕ) → digits < 8388608 → Significand field digits s → s < 16777216
 significand-bound field digits s h (inl w) = omega arith
 significand-bound field digits s h (inr w) = omega arith
 
@@ -50,23 +50,41 @@ magnitude-by (suc x) digits s (inr w) = ap (λ (k : ℕ). s * 8000 * 2 ^ k) (les
     go : (p : ℕ) → (digits + 8388608) * 8000 * p ≡ 1000 * ((8388608 + digits) * p) * 8
     go p = omega arith
 
+-- The count of a register times a ratio, in eighths of 1,000 units.
+magnitude-times : (field digits s r : ℕ) → Significand field digits s → s * 8000 * r * 2 ^ (field - 1) ≡ magnitude field digits * r * 8
+magnitude-times field digits s r sig =
+    swap s r (2 ^ (field - 1)) ∙ ap (λ (n : ℕ). n * r) (magnitude-by field digits s sig) ∙ last (magnitude field digits) r
+  where
+    swap : (s r p : ℕ) → s * 8000 * r * p ≡ s * 8000 * p * r
+    swap s r p = omega arith
+
+    last : (x r : ℕ) → x * 8 * r ≡ x * r * 8
+    last x r = omega arith
+
+-- A ratio of 16 bits leaves the count below 2 ^ 53.
+pub count-bound : (field digits s r : ℕ) → digits < 8388608 → r < 65536 → Significand field digits s → s * 8000 * r < 2 ^ 53
+count-bound field digits s r l b sig = go s r (significand-bound field digits s l sig) b
+  where
+    go : (s r : ℕ) → s < 16777216 → r < 65536 → s * 8000 * r < 2 ^ 53
+    go s r a c = omega (arith, mul-le-mul-right (8000 * r) a, mul-le-mul-right (8000 * 16777216) c)
+
 -- Eight units are 2 ^ 152.
-pub shifted : (dir : Direction) (field digits s k : ℕ) → field ≤ 153 → digits < 8388608 → Significand field digits s → Shift field k
-    → divided dir (s * 8000) (2 ^ k) ≡ divided dir (magnitude field digits) unit
-shifted dir field digits s k h l sig sh =
+pub shifted-by : (dir : Direction) (field digits s k r : ℕ) → field ≤ 153 → digits < 8388608 → r < 65536 → Significand field digits s → Shift field k
+    → divided dir (s * 8000 * r) (2 ^ k) ≡ divided dir (magnitude field digits * r) unit
+shifted-by dir field digits s k r h l b sig sh =
     places sh
-    ∙ sym (divided-scaled dir (s * 8000) (2 ^ (152 - (field - 1))) (2 ^ (field - 1))
+    ∙ sym (divided-scaled dir (s * 8000 * r) (2 ^ (152 - (field - 1))) (2 ^ (field - 1))
     (pow-pos (152 - (field - 1))) (pow-pos (field - 1)))
-    ∙ ap (divided dir (s * 8000 * 2 ^ (field - 1)))
+    ∙ ap (divided dir (s * 8000 * r * 2 ^ (field - 1)))
     (sym (pow-add 2 (152 - (field - 1)) (field - 1)) ∙ ap (λ (j : ℕ). 2 ^ j) (sum field h))
-    ∙ ap (λ (n : ℕ). divided dir n (2 ^ 152)) (magnitude-by field digits s sig)
-    ∙ divided-scaled dir (magnitude field digits) unit 8 (pow-pos 149) (omega arith)
+    ∙ ap (λ (n : ℕ). divided dir n (2 ^ 152)) (magnitude-times field digits s r sig)
+    ∙ divided-scaled dir (magnitude field digits * r) unit 8 (pow-pos 149) (omega arith)
   where
     sum : (field : ℕ) → field ≤ 153 → (152 - (field - 1)) + (field - 1) ≡ 152
     sum field h = omega arith
 
-    small : (s : ℕ) → s < 16777216 → s * 8000 < 2 ^ 63
-    small s b = omega arith
+    small : {n : ℕ} → n < 2 ^ 53 → n < 2 ^ 63
+    small a = omega arith
 
     long : (field : ℕ) → field < 90 → 63 ≤ 152 - (field - 1)
     long field b = omega arith
@@ -74,13 +92,13 @@ shifted dir field digits s k h l sig sh =
     short : (field : ℕ) → 90 ≤ field → 153 - field ≡ 152 - (field - 1)
     short field b = omega arith
 
-    places : Shift field k → divided dir (s * 8000) (2 ^ k) ≡ divided dir (s * 8000) (2 ^ (152 - (field - 1)))
+    places : Shift field k → divided dir (s * 8000 * r) (2 ^ k) ≡ divided dir (s * 8000 * r) (2 ^ (152 - (field - 1)))
     places (inl w) =
-        let n = small s (significand-bound field digits s l sig) in
-        ap (λ (j : ℕ). divided dir (s * 8000) (2 ^ j)) (w .1)
-        ∙ divided-below dir (s * 8000) (2 ^ 63) (2 ^ (152 - (field - 1))) n
+        let n = small (count-bound field digits s r l b sig) in
+        ap (λ (j : ℕ). divided dir (s * 8000 * r) (2 ^ j)) (w .1)
+        ∙ divided-below dir (s * 8000 * r) (2 ^ 63) (2 ^ (152 - (field - 1))) n
         (lt-of-lt-of-le n (pow-mono {i = 63} {j = 152 - (field - 1)} (long field (w .0))))
-    places (inr w) = ap (λ (j : ℕ). divided dir (s * 8000) (2 ^ j)) (w .1 ∙ short field (w .0))
+    places (inr w) = ap (λ (j : ℕ). divided dir (s * 8000 * r) (2 ^ j)) (w .1 ∙ short field (w .0))
 
 -- ---- the test whether bits were lost
 

@@ -1,4 +1,5 @@
--- A source's energy from its meters (document 01, "From register to watt-hours", second paragraph, and "Source entry", numbers 2, 3, 4, 6).
+-- A source's energy from its meters (document 01, "From register to watt-hours", second paragraph, and "Source entry", numbers 2, 3, 4, 6; document
+-- 02, wish 4).
 use Prim.Native.Nat.{ℕ, _+_, _-_}
 use mathlib.Core.Bool.{Bool, true, false, not, cond, _&&_, _||_}
 use mathlib.Core.List.{List, [], _∷_, map}
@@ -7,7 +8,7 @@ use lib.ListN.{take}
 use Rattle.rounding.specs.Divided.{divided, opposite, sum}
 use Rattle.rounding.specs.Ratio.{Ratio}
 use Rattle.rounding.specs.declared.Direction.{Direction}
-use Rattle.metering.specs.Reading.{unit, limit, exact, accepted}
+use Rattle.metering.specs.Reading.{unit, limit, exactBy, ratioFits, accepted}
 use Rattle.metering.specs.declared.Reading.{Reading}
 use Rattle.metering.specs.declared.Reading.the-variants.{Whole, Single}
 use Rattle.metering.specs.declared.Sign.{Sign}
@@ -49,26 +50,30 @@ taking m = takingOf (m .sign) (m .interval)
 unfoldable pub exactEnergy : List Meter → Ratio
 exactEnergy ms =
     record {
-      plus = sum (map (λ (m : Meter). exact (adding m)) ms);
-      minus = sum (map (λ (m : Meter). exact (taking m)) ms);
+      plus = sum (map (λ (m : Meter). exactBy (m .ratio) (adding m)) ms);
+      minus = sum (map (λ (m : Meter). exactBy (m .ratio) (taking m)) ms);
       over = unit;
     }
 
 -- "For a project or leakage source a + meter takes last up and first down, and a - meter takes last down and first up; for a baseline
 -- source each is the opposite": what adds is rounded in the source's direction, what is taken in the opposite one.
 unfoldable pub roundedAdding : Direction → List Meter → ℕ
-roundedAdding dir ms = sum (map (λ (m : Meter). divided dir (exact (adding m)) unit) ms)
+roundedAdding dir ms = sum (map (λ (m : Meter). divided dir (exactBy (m .ratio) (adding m)) unit) ms)
 
 unfoldable pub roundedTaking : Direction → List Meter → ℕ
-roundedTaking dir ms = sum (map (λ (m : Meter). divided (opposite dir) (exact (taking m)) unit) ms)
+roundedTaking dir ms = sum (map (λ (m : Meter). divided (opposite dir) (exactBy (m .ratio) (taking m)) unit) ms)
+
+-- "A ratio outside its range is refused 2" (document 02, wish 4).
+abbrev pub hasRatio : Meter → Bool
+hasRatio m = ratioFits (m .ratio)
 
 -- "3 a reading above its limit, a register below zero, infinite or not a number."
 abbrev pub isAccepted : Meter → Bool
-isAccepted m = accepted (firstOf (m .interval)) && accepted (lastOf (m .interval))
+isAccepted m = accepted (m .ratio) (firstOf (m .interval)) && accepted (m .ratio) (lastOf (m .interval))
 
 -- "4 a last reading below its first, by exact value."
 abbrev pub runsBack : Meter → Bool
-runsBack m = ltb (exact (lastOf (m .interval))) (exact (firstOf (m .interval)))
+runsBack m = ltb (exactBy (m .ratio) (lastOf (m .interval))) (exactBy (m .ratio) (firstOf (m .interval)))
 
 unfoldable pub allMeters : (Meter → Bool) → List Meter → Bool
 allMeters p [] = true
@@ -89,9 +94,10 @@ judgedReadings dir ms =
 abbrev pub metersLimit : ℕ
 metersLimit = 4
 
--- "2 meters not 1 to 4"; the source's meters are the first `count` ones.
+-- "2 meters not 1 to 4", or a ratio outside its range; the source's meters are the first `count` ones.
 unfoldable pub judgedMeters : Direction → ℕ → List Meter → MetersJudged
-judgedMeters dir count ms = cond (leb 1 count && leb count metersLimit) (judgedReadings dir (take count ms)) (metersJudged.Refused 2)
+judgedMeters dir count ms =
+    cond (leb 1 count && leb count metersLimit && allMeters hasRatio (take count ms)) (judgedReadings dir (take count ms)) (metersJudged.Refused 2)
 
 -- "The signed sum of these is E, in Wh, accepted from 0 to 100,000,000,000"; "6 E below 0 or above its limit".
 unfoldable pub settledEnergy : ℕ → ℕ → EnergyJudged
@@ -109,4 +115,4 @@ energyRefusal (energyJudged.Accepted E) = 0
 
 -- The empty meter: what a place for a meter holds where there is none.
 abbrev pub noMeter : Meter
-noMeter = record { sign = Plus; interval = Counts 0 0 }
+noMeter = record { ratio = 1; sign = Plus; interval = Counts 0 0 }

@@ -1,19 +1,27 @@
 // Meters: from register to a source's energy in whole watt-hours (document 01, "From register to
-// watt-hours"). We take it that the box has no floating-point unit: a register is read by the integers of its bits.
+// watt-hours"; document 02, wish 4). We take it that the box has no floating-point unit: a register is read by
+// the integers of its bits.
 ghost use mathlib.Core.Path.{_≡_};
 ghost use mathlib.Core.Bool.{true};
-ghost use Prim.Native.Nat.{_≤_, _<_};
+ghost use Prim.Native.Nat.{_*_, _≤_, _<_};
 ghost use lib.Dec.{ltb};
 ghost use lib.Ieee.{binary32, ofBits};
 ghost use lib.ListN.{take};
-ghost use Rattle.metering.specs.Reading.{exactRegister, accepted, wattHours, wattHoursMeaning};
+ghost use Rattle.metering.specs.Reading.{
+  exactRegister,
+  isReadableRegister,
+  ratioFits,
+  wattHours,
+  wattHoursMeaning,
+};
 ghost use Rattle.metering.specs.Energy.{
   firstOf,
   lastOf,
   adding,
   taking,
-  isAccepted,
+  hasRatio,
   runsBack,
+  allMeters,
   judgedMeters,
   settledEnergy,
   metersRefusal,
@@ -21,7 +29,7 @@ ghost use Rattle.metering.specs.Energy.{
   noMeter,
   metersLimit,
 };
-ghost use Rattle.metering.specs.Steps.{magnitude, roundedBothWays, meterRead, metersRead};
+ghost use Rattle.metering.specs.Steps.{magnitude, roundedBothWays, isRead, meterRead, metersRead};
 use rounding::Direction;
 
 // A meter reading: a whole count of watt-hours, or a binary32 register in kWh.
@@ -31,7 +39,8 @@ pub enum Reading {
 }
 
 impl Reading {
-    // The largest accepted reading, and the largest accepted energy of a source, in watt-hours.
+    // The largest accepted reading, times its meter's ratio, and the largest accepted energy of a source, in
+    // watt-hours.
     pub const LIMIT: u64 = 100_000_000_000;
 }
 
@@ -53,7 +62,10 @@ pub enum Interval {
     Singles(Registers),
 }
 
+// A meter behind a transformer counts a part of the energy: what its readings stand for is their value times
+// the ratio. Without a transformer the ratio is 1.
 pub struct Meter {
+    pub ratio: u16,
     pub sign: Sign,
     pub interval: Interval,
 }
@@ -63,11 +75,14 @@ impl Meter {
     pub const COUNT_LIMIT: u8 = 4;
 
     pub const PLACES: usize = Meter::COUNT_LIMIT as usize;
+
+    // The largest ratio. The least is 1.
+    pub const RATIO_LIMIT: u16 = 10_000;
 }
 
-// A reading in whole watt-hours, or that it is refused (number 3).
+// A reading times its ratio in whole watt-hours, or the number of the refusal: 2 or 3.
 pub enum WattHours {
-    Refused,
+    Refused(u8),
     Rounded(u64),
 }
 
@@ -124,20 +139,20 @@ struct Bounds {
     up: u64,
 }
 
-// A finite register's magnitude, rounded both ways. Its significand, the digits with a leading one,
-// counts 1,000 × 2^(field - 150) Wh, which is 8,000 × 2^(field - 153): up to field 153 a shift to the
-// right. Field 0 has no leading one and counts as field 1 does. The count is below 2^37, so a shift by
-// 63 loses all of it, as the longer ones of small fields would.
-fn round_both_ways(field: u32, digits: u32) -> Bounds
+// A finite register's magnitude times a ratio, rounded both ways. Its significand, the digits with a leading
+// one, counts 1,000 × 2^(field - 150) Wh, which is 8,000 × 2^(field - 153): up to field 153 a shift to the
+// right. Field 0 has no leading one and counts as field 1 does. The count is below 2^53, so a shift by 63 loses
+// all of it, as the longer ones of small fields would.
+fn round_both_ways(field: u32, digits: u32, ratio: u16) -> Bounds
     requires { ⌜ (field ≤ 153) × (digits < 8388608) ⌝ }
-    ensures { λ r. ⌜ r ≡ roundedBothWays (magnitude field digits) ⌝ }
+    ensures { λ r. ⌜ r ≡ roundedBothWays (magnitude field digits * ratio) ⌝ }
 {
     let significand = if field == 0 {
         digits
     } else {
         digits + 0x80_0000
     };
-    let count = significand as u64 * 8000;
+    let count = significand as u64 * 8000 * ratio as u64;
     let shift = if field < 90 { 63 } else { 153 - field };
     let down = count >> shift;
     if down << shift == count {
@@ -152,23 +167,34 @@ fn round_both_ways(field: u32, digits: u32) -> Bounds
     }
 }
 
-// The whole watt-hours of the register with this bit pattern. Patterns above that of -0 are those of
-// registers below zero and of no number. The limit is on the exact value, which is above it exactly
-// where the value rounded up is.
-fn register_watt_hours(bits: u32, direction: Direction) -> WattHours
-    ensures { λ r. ⌜ wattHoursMeaning r ≡ wattHours direction (Reading.Single (ofBits binary32 bits)) ⌝ }
+// Whether a ratio is in its range.
+fn ratio_fits(ratio: u16) -> bool
+    ensures { λ r. ⌜ r ≡ ratioFits ratio ⌝ }
+{
+    if ratio == 0 {
+        return false;
+    }
+    ratio <= Meter::RATIO_LIMIT
+}
+
+// The whole watt-hours of the register with this bit pattern, times the ratio. Patterns above that of -0 are
+// those of registers below zero and of no number. The limit is on the exact product, which is above it exactly
+// where the product rounded up is.
+fn register_watt_hours(bits: u32, ratio: u16, direction: Direction) -> WattHours
+    requires { ⌜ ratioFits ratio ≡ true ⌝ }
+    ensures { λ r. ⌜ wattHoursMeaning r ≡ wattHours direction ratio (Reading.Single (ofBits binary32 bits)) ⌝ }
 {
     if bits > 0x8000_0000 {
-        return WattHours::Refused;
+        return WattHours::Refused(3);
     }
     let field = bits % 0x8000_0000 / 0x80_0000;
-    // 2^27 kWh and more, or no number: beyond the limit, and beyond what the shift takes.
+    // 2^27 kWh and more, or no number: beyond the limit by every ratio, and beyond what the shift takes.
     if field > 153 {
-        return WattHours::Refused;
+        return WattHours::Refused(3);
     }
-    let bounds = round_both_ways(field, bits % 0x80_0000);
+    let bounds = round_both_ways(field, bits % 0x80_0000, ratio);
     if bounds.up > Reading::LIMIT {
-        return WattHours::Refused;
+        return WattHours::Refused(3);
     }
     match direction {
         Direction::Up => WattHours::Rounded(bounds.up),
@@ -176,23 +202,31 @@ fn register_watt_hours(bits: u32, direction: Direction) -> WattHours
     }
 }
 
-// A reading's whole watt-hours in the direction, or that it is refused.
-pub fn watt_hours(reading: Reading, direction: Direction) -> WattHours
-    ensures { λ r. ⌜ wattHoursMeaning r ≡ wattHours direction reading ⌝ }
+// The whole watt-hours of a reading times its ratio, in the direction, or the number of its refusal.
+pub fn watt_hours(reading: Reading, ratio: u16, direction: Direction) -> WattHours
+    ensures { λ r. ⌜ wattHoursMeaning r ≡ wattHours direction ratio reading ⌝ }
 {
+    if ratio_fits(ratio) == false {
+        return WattHours::Refused(2);
+    }
     match reading {
         Reading::Whole(count) => {
+            // Beyond the limit by every ratio; the product may not fit.
             if count > Reading::LIMIT {
-                return WattHours::Refused;
+                return WattHours::Refused(3);
             }
-            WattHours::Rounded(count)
+            let product = count * ratio as u64;
+            if product > Reading::LIMIT {
+                return WattHours::Refused(3);
+            }
+            WattHours::Rounded(product)
         }
         Reading::Single(x) => {
             // A NaN has no pattern of its own.
             if x != x {
-                return WattHours::Refused;
+                return WattHours::Refused(3);
             }
-            register_watt_hours(f32::to_bits(x), direction)
+            register_watt_hours(f32::to_bits(x), ratio, direction)
         }
     }
 }
@@ -218,11 +252,11 @@ impl Interval {
 }
 
 impl Registers {
-    // Whether the last register is below the first. The patterns of accepted registers, read as integers
+    // Whether the last register is below the first. The patterns of numbers from zero, read as integers
     // without the sign, which only -0 has, are in the order of the values. Other registers are refused
     // before, so they are ruled out here: below zero the order is the opposite, and a NaN has none.
     fn run_back(self) -> bool
-        requires { ⌜ (accepted (Reading.Single (self .first)) ≡ true) × (accepted (Reading.Single (self .last)) ≡ true) ⌝ }
+        requires { ⌜ (isReadableRegister (self .first) ≡ true) × (isReadableRegister (self .last) ≡ true) ⌝ }
         ensures { λ r. ⌜ r ≡ ltb (exactRegister (self .last)) (exactRegister (self .first)) ⌝ }
     {
         let first = self.first;
@@ -237,6 +271,7 @@ impl Meter {
         ensures { λ r. ⌜ r ≡ noMeter ⌝ }
     {
         Meter {
+            ratio: 1,
             sign: Sign::Plus,
             interval: Interval::Counts(0, 0),
         }
@@ -266,10 +301,10 @@ impl Meter {
         }
     }
 
-    // Whether the last reading is below the first, by exact value. Number 3 comes before number 4, so both
-    // are accepted.
+    // Whether the last reading is below the first, by exact value: both times one ratio, which is not 0, are
+    // in the order of the readings. Numbers 2 and 3 come before number 4, so the meter is one that is read.
     fn runs_back(self) -> bool
-        requires { ⌜ isAccepted self ≡ true ⌝ }
+        requires { ⌜ isRead self ≡ true ⌝ }
         ensures { λ r. ⌜ r ≡ runsBack self ⌝ }
     {
         let interval = self.interval;
@@ -287,14 +322,16 @@ enum MeterRead {
     Moved(u64, u64, bool),
 }
 
-// One meter: what adds is rounded in the source's direction, what is taken in the opposite one.
+// One meter: what adds is rounded in the source's direction, what is taken in the opposite one, both times the
+// meter's ratio.
 fn read_meter(meter: Meter, direction: Direction) -> MeterRead
     ensures { λ r. ⌜ r ≡ meterRead direction meter ⌝ }
 {
-    let WattHours::Rounded(adds) = watt_hours(meter.adding(), direction) else {
+    let ratio = meter.ratio;
+    let WattHours::Rounded(takes) = watt_hours(meter.taking(), ratio, direction.reversed()) else {
         return MeterRead::Refused;
     };
-    let WattHours::Rounded(takes) = watt_hours(meter.taking(), direction.reversed()) else {
+    let WattHours::Rounded(adds) = watt_hours(meter.adding(), ratio, direction) else {
         return MeterRead::Refused;
     };
     MeterRead::Moved(adds, takes, meter.runs_back())
@@ -323,8 +360,24 @@ fn read_meters(meters: [Meter; Meter::PLACES], count: usize, direction: Directio
     MeterRead::Moved(adds, takes, back)
 }
 
+// Whether the ratios of the first `count` meters are in their range.
+fn ratios_fit(meters: [Meter; Meter::PLACES], count: usize) -> bool
+    requires { ⌜ count ≤ metersLimit ⌝ }
+    ensures { λ r. ⌜ r ≡ allMeters hasRatio (take count meters) ⌝ }
+{
+    let mut i = 0;
+    while i < count {
+        let meter = meters[i];
+        if ratio_fits(meter.ratio) == false {
+            return false;
+        }
+        i += 1;
+    }
+    true
+}
+
 // The rounded readings of a source's meters, the first `count` of the four, or the first refusal of 2, 3
-// and 4 that is due (document 01, "Source entry").
+// and 4 that is due (document 01, "Source entry"). Number 2 is tested over all meters before number 3 of any.
 pub fn judge_meters(meters: [Meter; Meter::PLACES], count: u8, direction: Direction) -> MetersJudged
     ensures { λ r. ⌜ r ≡ judgedMeters direction count meters ⌝ }
 {
@@ -332,6 +385,9 @@ pub fn judge_meters(meters: [Meter; Meter::PLACES], count: u8, direction: Direct
         return MetersJudged::Refused(2);
     }
     if count > Meter::COUNT_LIMIT {
+        return MetersJudged::Refused(2);
+    }
+    if ratios_fit(meters, count as usize) == false {
         return MetersJudged::Refused(2);
     }
     let MeterRead::Moved(adds, takes, back) = read_meters(meters, count as usize, direction) else {

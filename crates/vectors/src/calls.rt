@@ -3,8 +3,7 @@
 //   1  grid entry: form, a stated factor (0) or margins (1), the factor or the operating margin, the build
 //      margin, the weights of the two, thermal (0) or hydro (1); beside a factor the three are not read
 //   2  plant entry: number, site, generation, count, and four fuel lines, each as in fuel_lines.rt
-//   3  source entry: number, side, supply, site, loss, measured loss, count, and the sign, + (0) or - (1),
-//      the kind, whole (0) or single (1), and the first and last reading of four meters
+//   3  source entry: number, side, supply, site, loss, measured loss, count, and four meters, each as in sources.rt
 //   4  drop of a plant: number
 //   5  drop of a source: number
 //   6  report
@@ -251,7 +250,7 @@ pub struct Turn {
 }
 
 pub fn answer_line(ledger: Ledger) -> Turn {
-    let mut line = [0u8; 408];
+    let mut line = [0u8; 476];
     if read_line(&mut line) {
         return Turn {
             ledger: called(ledger, &line),

@@ -122,23 +122,24 @@ fn field_interval(line: &[u8], i: usize) -> Interval {
     })
 }
 
-// Four fields from i as a meter: its sign and its interval.
+// Five fields from i as a meter: its ratio, its sign and its interval.
 fn field_meter(line: &[u8], i: usize) -> Meter {
     let at = i % 256;
     Meter {
-        sign: field_sign(line, at),
-        interval: field_interval(line, at + 1),
+        ratio: field_u16(line, at),
+        sign: field_sign(line, at + 1),
+        interval: field_interval(line, at + 2),
     }
 }
 
-// Sixteen fields from i as four meters.
+// Twenty fields from i as four meters.
 pub fn field_meters(line: &[u8], i: usize) -> [Meter; Meter::PLACES] {
     let at = i % 256;
     [
         field_meter(line, at),
-        field_meter(line, at + 4),
-        field_meter(line, at + 8),
-        field_meter(line, at + 12),
+        field_meter(line, at + 5),
+        field_meter(line, at + 10),
+        field_meter(line, at + 15),
     ]
 }
 

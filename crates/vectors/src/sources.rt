@@ -1,6 +1,6 @@
 // The meters of a source: its direction, up (0) or down (1), its number of meters, and four meters, each by its
-// sign, + (0) or - (1), its kind, whole (0) or single (1), and its first and last reading. Writes the source's
-// energy, or the number of the refusal.
+// ratio, its sign, + (0) or - (1), its kind, whole (0) or single (1), and its first and last reading. Writes the
+// source's energy, or the number of the refusal.
 use crate::lines::direction;
 use crate::lines::field;
 use crate::lines::field_meters;
@@ -34,7 +34,7 @@ fn answer(judged: MetersJudged) {
 }
 
 pub fn answer_line() -> bool {
-    let mut line = [0u8; 306];
+    let mut line = [0u8; 374];
     if read_line(&mut line) {
         answer(judge(&line));
         return true;

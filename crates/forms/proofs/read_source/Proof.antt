@@ -1,7 +1,7 @@
 -- `forms::read_source` meets its contract, by what was read at each place of the code. Assumes nothing.
 use borrow.Author.Needs.{needs}
-use mathlib.Core.Path.{_≡_, sym, ap, _∙_}
-use mathlib.Core.List.{List}
+use mathlib.Core.Path.{_≡_, refl, sym, ap, _∙_}
+use mathlib.Core.List.{List, map-map}
 use Prim.Native.Nat.{ℕ}
 use lib.ListN.{drop}
 use denote.Ref.{now}
@@ -9,8 +9,10 @@ use Rattle.text.specs.Template.{templateIn}
 use Rattle.text.proofs.Templates.{template-read}
 use Rattle.forms.specs.Templates.{sourceOpening}
 use Rattle.forms.specs.Reading.{oneOf, sides, supplies, losses, sourceIn}
-use Rattle.forms.specs.Calls.{callOf, fittedSupply, fittedLoss, fitted, plainLine, lineOf}
+use Rattle.metering.specs.Energy.{noMeter}
+use Rattle.forms.specs.Calls.{meterOf, callOf, fittedSupply, fittedLoss, fittedMeter, fitted, plainLine, lineOf}
 use Rattle.forms.specs.Steps.{found, sideMeaning, supplyMeaning, lossMeaning}
+use Rattle.forms.proofs.Lists.{map-four}
 use Rattle.forms.proofs.Lines.{part-missing, ReadAs, part-read, source-call, nothing-read}
 use Rattle.forms.proofs.read_source.Statement.{statement}
 use Rattle.forms.proofs.read_source.Tie as tie
@@ -141,7 +143,7 @@ returns-5 c =
     let supply = supply-read (c .before .before .before .before .before .before .before .before .before .before .before .before) in
     let loss = loss-read (c .before .before .before .before .before .before .before .before) in
     let m = c .before .before .before .before .before .before .read-meters .ensures in (
-      rw (number-read (c .before .before .before .before .before .before .before .before .before .before .before .before .before .before .before .before .before .before .before .before), side-read (c .before .before .before .before .before .before .before .before .before .before .before .before .before .before .before .before), supply .1, loss .1, c .before .before .before .before .before .byte-field .ensures, c .byte-field2 .ensures, m .0, m .1 .0, m .1 .1)
+      rw (number-read (c .before .before .before .before .before .before .before .before .before .before .before .before .before .before .before .before .before .before .before .before), side-read (c .before .before .before .before .before .before .before .before .before .before .before .before .before .before .before .before), supply .1, loss .1, c .before .before .before .before .before .byte-field .ensures, c .byte-field2 .ensures, m .0, m .1 .0, m .1 .1, map-four fittedMeter noMeter _ refl, map-map fittedMeter meterOf _)
           (source-call _ _ _ _ _ _ _ _ _ (supply .2) (loss .2)),
       rw (c .before .before .before .plain-line .ensures),
     )

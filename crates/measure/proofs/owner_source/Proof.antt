@@ -5,10 +5,10 @@ use Rattle.measure.proofs.owner_source.Statement.{statement}
 use Rattle.measure.proofs.owner_source.Tie as tie
 
 abbrev Inv-loop : tie.InvT-loop
-Inv-loop words times first last ledger₀ entry sum₀ i₀ ledger sum i = i ≤ times
+Inv-loop words times first last ratio ledger₀ entry sum₀ i₀ ledger sum i = i ≤ times
 
 abbrev μ-loop : tie.MeasureT-loop
-μ-loop words times first last ledger₀ entry sum₀ i₀ ledger sum i = times - i
+μ-loop words times first last ratio ledger₀ entry sum₀ i₀ ledger sum i = times - i
 
 full-requires : tie.Need-full-requires Inv-loop μ-loop
 full-requires c κs = search needs

@@ -9,7 +9,7 @@ use Rattle.rounding.specs.declared.Direction.{Direction}
 use Rattle.rounding.specs.Divided.{divided}
 use Rattle.metering.specs.Reading.{unit}
 use Rattle.metering.specs.Steps.{magnitude}
-use Rattle.metering.proofs.Shifts.{Significand, Shift, significand-bound, shifted, exact-both, inexact-both}
+use Rattle.metering.proofs.Shifts.{Significand, Shift, count-bound, shifted-by, exact-both, inexact-both}
 use Rattle.metering.proofs.round_both_ways.Statement.{statement}
 use Rattle.metering.proofs.round_both_ways.Tie as tie
 
@@ -24,23 +24,22 @@ shift-bound : (field k : ℕ) → Shift field k → k < 64
 shift-bound field k (inl w) = omega arith
 shift-bound field k (inr w) = omega arith
 
-count-bound : (c : tie.Joined1) → c .if1 .significand * 8000 < 2 ^ 62
-count-bound c =
+bounded : (c : tie.Joined1) → c .if1 .significand * 8000 * c .before .args .ratio < 2 ^ 53
+bounded c =
     let a = c .before in
-    go (c .if1 .significand) (significand-bound (a .args .field) (a .args .digits) (c .if1 .significand) (a .pre .1) (significand-is c))
-  where
-    go : (s : ℕ) → s < 16777216 → s * 8000 < 2 ^ 62
-    go s h = omega arith
+    count-bound (a .args .field) (a .args .digits) (c .if1 .significand) (a .args .ratio) (a .pre .1) (a .fits .ratio .fits) (significand-is c)
 
-wider : {n : ℕ} → n < 2 ^ 62 → n < 2 ^ 64
+wider : {n : ℕ} → n < 2 ^ 53 → n < 2 ^ 64
 wider h = omega arith
 
 rounds-as : (c : tie.Joined2) (dir : Direction)
     → let a = c .before .before .before .args in
-    divided dir (c .before .before .if1 .significand * 8000) (2 ^ c .if2 .shift) ≡ divided dir (magnitude (a .field) (a .digits)) unit
+    divided dir (c .before .before .if1 .significand * 8000 * a .ratio) (2 ^ c .if2 .shift)
+    ≡ divided dir (magnitude (a .field) (a .digits) * a .ratio) unit
 rounds-as c dir =
     let a = c .before .before .before in
-    shifted dir (a .args .field) (a .args .digits) (c .before .before .if1 .significand) (c .if2 .shift) (a .pre .0) (a .pre .1)
+    shifted-by dir (a .args .field) (a .args .digits) (c .before .before .if1 .significand) (c .if2 .shift) (a .args .ratio)
+    (a .pre .0) (a .pre .1) (a .fits .ratio .fits)
     (significand-is (c .before .before)) (shift-is c)
 
 add-significand : tie.Need-add-significand
@@ -48,6 +47,9 @@ add-significand c = search needs
 
 mul-count : tie.Need-mul-count
 mul-count c = search needs
+
+mul-count-2 : tie.Need-mul-count-2
+mul-count-2 c = record { fits = wider (bounded (c .before)) }
 
 sub-shift : tie.Need-sub-shift
 sub-shift c = search needs
@@ -61,22 +63,22 @@ shl-if3 c = shift-bound _ _ (shift-is (c .before))
 returns : tie.Need-returns
 returns c =
     let j = c .before .before in
-    exact-both _ _ _ (wider (count-bound (j .before .before))) (rounds-as j) (c .if3 .taken)
+    exact-both _ _ _ (wider (bounded (j .before .before))) (rounds-as j) (c .if3 .taken)
 
-add-t9 : tie.Need-add-t9
-add-t9 c =
+add-t11 : tie.Need-add-t11
+add-t11 c =
     let j = c .before .before in
-    record { fits = room _ _ (count-bound (j .before .before)) (div-le-self _ _) }
+    record { fits = room _ _ (bounded (j .before .before)) (div-le-self _ _) }
   where
-    room : (n q : ℕ) → n < 2 ^ 62 → q ≤ n → q + 1 < 2 ^ 64
+    room : (n q : ℕ) → n < 2 ^ 53 → q ≤ n → q + 1 < 2 ^ 64
     room n q h k = omega arith
 
 returns-2 : tie.Need-returns-2
 returns-2 c =
     let j = c .before .before in
-    inexact-both _ _ _ (wider (count-bound (j .before .before))) (rounds-as j) (c .if3 .left)
+    inexact-both _ _ _ (wider (bounded (j .before .before))) (rounds-as j) (c .if3 .left)
 
 pub round-both-ways-spec : {M : Type 1} → statement M
 round-both-ways-spec =
     tie.close
-    (tie.spec add-significand mul-count sub-shift shr-down shl-if3 returns add-t9 returns-2)
+    (tie.spec add-significand mul-count mul-count-2 sub-shift shr-down shl-if3 returns add-t11 returns-2)

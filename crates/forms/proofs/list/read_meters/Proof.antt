@@ -8,7 +8,7 @@ use lib.ListN.{length, drop}
 use denote.Ref.{now}
 use Rattle.metering.specs.Energy.{noMeter}
 use Rattle.forms.specs.Reading as reading
-use Rattle.forms.specs.Calls.{meterOf}
+use Rattle.forms.specs.Calls.{fittedMeterOf}
 use Rattle.forms.specs.Steps.{meterMeaning}
 use Rattle.forms.proofs.Lists.{meters-take, within-length, Amounts, left-whole, left-end, left-none, left-one}
 use Rattle.forms.proofs.list.read_meters.Statement.{statement}
@@ -18,7 +18,7 @@ abbrev Inv-loop : tie.InvT-loop
 Inv-loop line at meters₀ turn₀ meters turn =
     (turn ≤ length line)
     × (meters .count ≡ turn)
-    × Amounts meterOf noMeter (reading.manyOf reading.meters (drop at line)) (meters .count) (meters .meters)
+    × Amounts fittedMeterOf noMeter (reading.manyOf reading.meters (drop at line)) (meters .count) (meters .meters)
     (reading.manyWithin reading.meters (length line - turn) (drop (meters .next) line))
 
 abbrev μ-loop : tie.MeasureT-loop
@@ -30,7 +30,7 @@ empty-requires c κs = search needs
 loop-holds : tie.Need-loop-holds Inv-loop μ-loop
 loop-holds c =
     let a = c .before .before .args in
-    rw (c .empty .ensures) (omega arith, refl, left-whole reading.meters meterOf noMeter _ _ (rw sub-zero (within-length reading.meters meters-take (now (a .line)) (a .at))))
+    rw (c .empty .ensures) (omega arith, refl, left-whole reading.meters fittedMeterOf noMeter _ _ (rw sub-zero (within-length reading.meters meters-take (now (a .line)) (a .at))))
 
 read-meter-requires : tie.Need-read-meter-requires Inv-loop μ-loop
 read-meter-requires c κs = search needs
@@ -45,7 +45,7 @@ returns : tie.Need-returns Inv-loop μ-loop
 returns c =
     let s = now (c .before .before .before .before .before .before .before .args .line) in
     let l = c .before .before .before .before .loop in
-    left-none reading.meters meterOf noMeter _ (l .meters .count) (l .meters .meters) _ _
+    left-none reading.meters fittedMeterOf noMeter _ (l .meters .count) (l .meters .meters) _ _
     (sym (ap (meterMeaning s) (c .enum-told .given .1)) ∙ c .before .before .read-meter .ensures)
     (l .inv .2)
 
@@ -66,7 +66,7 @@ loop-again c =
       omega arith,
       w .1 .0 ∙ ap (λ (n : ℕ). n + 1) (l .inv .1),
       rw (w .0, w .1 .0, w .1 .1)
-          (left-one reading.meters meterOf noMeter _ (l .meters .count) (l .meters .meters) _ _ s _ _ (c .before .before .meter .given .0 .1 .0) (omega arith)
+          (left-one reading.meters fittedMeterOf noMeter _ (l .meters .count) (l .meters .meters) _ _ s _ _ (c .before .before .meter .given .0 .1 .0) (omega arith)
           (sym (ap (meterMeaning s) (c .before .before .meter .given .1)) ∙ c .before .before .before .before .read-meter .ensures)
           (l .inv .2)),
     )
@@ -74,7 +74,7 @@ loop-again c =
 returns-2 : tie.Need-returns-2 Inv-loop μ-loop
 returns-2 c =
     let l = c .before .loop in
-    left-end reading.meters meterOf noMeter _ (l .meters .count) (l .meters .meters) _ _ (omega arith) (l .inv .2)
+    left-end reading.meters fittedMeterOf noMeter _ (l .meters .count) (l .meters .meters) _ _ (omega arith) (l .inv .2)
 
 pub read-meters-spec : {M : Type 1} → statement M
 read-meters-spec =

@@ -3,13 +3,12 @@ use borrow.Author.Needs.{needs}
 use mathlib.Core.Path.{sym, ap, _∙_}
 use mathlib.Core.List.{List}
 use Prim.Native.Nat.{ℕ}
-use native.Mathlib.Omega.{arith}
 use lib.ListN.{drop}
 use denote.Ref.{now}
 use Rattle.text.specs.Template.{mapRead}
 use Rattle.forms.specs.Reading.{losses}
 use Rattle.forms.specs.Calls.{fittedLoss}
-use Rattle.forms.proofs.Rows.{Left, row-passed, row-read, no-row, at-most-fits}
+use Rattle.forms.proofs.Rows.{Left, row-passed, row-read, no-row}
 use Rattle.forms.proofs.part.read_loss.Statement.{statement}
 use Rattle.forms.proofs.part.read_loss.Tie as tie
 
@@ -26,16 +25,13 @@ read-template-requires c κs = search needs
 enum-known-numbers : tie.Need-enum-known-numbers
 enum-known-numbers c = search needs
 
-at-most-requires : tie.Need-at-most-requires
-at-most-requires c κs = search needs
-
-cast-t16 : tie.Need-cast-t16
-cast-t16 c = omega (arith, at-most-fits 65535 (c .before .before .numbers .given .0 .0 .first), c .at-most .ensures)
+half-field-requires : tie.Need-half-field-requires
+half-field-requires c κs = search needs
 
 returns : tie.Need-returns
 unfolding losses
 returns c =
-    rw (c .at-most .ensures)
+    rw (c .half-field .ensures)
     (sym
     (ap (mapRead fittedLoss)
     (row-read _ _ _ _ _ (c .before .before .before .before .read-template .ensures) _ _ (c .before .before .numbers .given .1))))
@@ -133,8 +129,7 @@ read-loss-spec =
     slice-aggregate-read-template
     read-template-requires
     enum-known-numbers
-    at-most-requires
-    cast-t16
+    half-field-requires
     returns
     enum-told
     slice-aggregate-read-template-2
