@@ -3,7 +3,7 @@ use mathlib.Core.Path.{_≡_, refl, sym, ap, _∙_, subst}
 use mathlib.Core.Bool.{Bool, true, false, not, cond, _&&_, _||_, true≢false}
 use mathlib.Core.List.{List, [], _∷_, map}
 use Prim.Native.Nat.{ℕ, suc, _+_, _-_, _*_, _≤_, _<_}
-use native.Mathlib.Nat.{add-assoc, add-zero, zero-add, sub-zero, mul-lt-mul-of-pos-right}
+use native.Mathlib.Nat.{add-assoc, add-zero, zero-add, sub-zero, sub-eq-zero-of-le, mul-lt-mul-of-pos-right}
 use native.Mathlib.Numerals.{add-one}
 use native.Mathlib.Omega.{arith}
 use lib.Dec.{leb, ltb}
@@ -216,10 +216,7 @@ ratios-turn ms n i d h k = ap (allMeters hasRatio) (rest ms n i d h k)
 
 pub ratios-none : (ms : List Meter) (n i : ℕ) → n ≤ i → ratiosLeft ms n i ≡ true
 unfolding allMeters
-ratios-none ms n i h = ap (λ (k : ℕ). allMeters hasRatio (take k (drop i ms))) (none n i h)
-  where
-    none : (n i : ℕ) → n ≤ i → n - i ≡ 0
-    none n i h = omega arith
+ratios-none ms n i h = ap (λ (k : ℕ). allMeters hasRatio (take k (drop i ms))) (sub-eq-zero-of-le h)
 
 -- ---- the judgement
 

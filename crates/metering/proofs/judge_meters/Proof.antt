@@ -4,7 +4,7 @@ use mathlib.Core.Path.{_≡_, sym, ap, _∙_}
 use mathlib.Core.Bool.{Bool, true, false, cond, _&&_}
 use mathlib.Core.List.{List}
 use Prim.Native.Nat.{ℕ, _≤_}
-use native.Mathlib.Omega.{arith}
+use native.Mathlib.Nat.{pos-of-ne-zero}
 use lib.Dec.{leb}
 use lib.ListN.{take}
 use borrow.Author.Tests.{le-leb, lt-leb}
@@ -65,11 +65,8 @@ judged : (c : tie.After-read-meters) (r : MeterRead) → c .read-meters .result 
 judged c r e =
     let t = c .before .before in
     let a = t .before .before .before .args in
-    counted (a .direction) (a .count) (a .meters) r (above (a .count) (t .before .before .if1 .left)) (t .before .if2 .left)
+    counted (a .direction) (a .count) (a .meters) r (pos-of-ne-zero (t .before .before .if1 .left)) (t .before .if2 .left)
     (tested _ _ (t .ratios-fit .ensures) false (c .before .if3 .left)) (sym e ∙ c .read-meters .ensures)
-  where
-    above : (n : ℕ) → (n ≡ 0 → ⊥) → 1 ≤ n
-    above n z = omega arith
 
 returns-4 : tie.Need-returns-4
 returns-4 c = judged (c .before .before) _ (c .enum-told .given .1)

@@ -3,7 +3,7 @@
 use borrow.Author.Needs.{needs}
 use mathlib.Core.Path.{_≡_, sym, ap, _∙_}
 use Prim.Native.Nat.{ℕ, _-_, _*_, _≤_, zero-le}
-use native.Mathlib.Nat.{le-of-eq, le-trans}
+use native.Mathlib.Nat.{le-of-eq, le-trans, sub-eq-zero-of-le}
 use native.Mathlib.Omega.{arith}
 use lib.ListN.{length, take, drop, getD}
 use Rattle.metering.specs.Reading.{limit}
@@ -90,12 +90,9 @@ returns-2 c =
     let a = b .before .args in
     let sums = Moved (b .loop .adds) (b .loop .takes) (b .loop .back) in
     sym (b .loop .inv .1
-    ∙ ap (λ (k : ℕ). joined sums (metersRead (a .direction) (take k (drop (b .loop .i) (a .t1))))) (none (a .count) (b .loop .i) (c .loop-test .left))
+    ∙ ap (λ (k : ℕ). joined sums (metersRead (a .direction) (take k (drop (b .loop .i) (a .t1))))) (sub-eq-zero-of-le (c .loop-test .left))
     ∙ ap (joined sums) (meters-none (a .direction))
     ∙ joined-none (b .loop .adds) (b .loop .takes) (b .loop .back))
-  where
-    none : (n i : ℕ) → n ≤ i → n - i ≡ 0
-    none n i h = omega arith
 
 pub read-meters-spec : {M : Type 1} → statement M
 read-meters-spec =
