@@ -99,8 +99,8 @@ def costs(code: measure.Code, ram: int, full: bytes):
     """Of one line more on a full ledger: a report, and its last source and plant once more."""
     print('assumed: 16 MHz, no wait states, a multiplier of one cycle; '
           'cycles by ARM DDI 0432C, table 3-1')
-    print('on a full ledger, a grid of margins, 8 plants of 4 fuel lines of all kinds on 4 sites'
-          ' and 32 sources of 4 meters:')
+    print('on a full ledger, a grid of margins, 8 plants of 4 fuel lines on 4 sites, two of them of'
+          ' all kinds and six with heat, and 32 sources of 4 meters:')
     *ledger, report = full.splitlines(keepends=True)
     before = measure.cost(code, ram, b''.join(ledger))
     for kind in ('report', 'source', 'plant'):

@@ -16,6 +16,9 @@ import generate  # noqa: E402
 
 SEEDS = range(7_000, 7_050)
 LINES = 300  # of a random input, so that many records stand
+# With lines of all kinds. The others have heat, which adds to a report's work and is refused beside
+# a carbon line.
+CARBON_PLANTS = 2
 
 # $ is a site, % the default loss that is open to the side.
 SUPPLIES = ('(combined) (%)', '(captive $) (none)', '(either $) (%)', '(griddefault) (%)',
@@ -24,12 +27,16 @@ SUPPLIES = ('(combined) (%)', '(captive $) (none)', '(either $) (%)', '(griddefa
 
 
 def full_ledger() -> list[str]:
-    """A grid of margins, 8 plants of 4 fuel lines of all kinds on 4 sites, and 32 sources of 4
-    meters, two of them by a ratio, over all supplies and losses."""
+    """A grid of margins, 8 plants of 4 fuel lines on 4 sites, two of them of all kinds and six with
+    heat, and 32 sources of 4 meters, two of them by a ratio, over all supplies and losses."""
     lines = ['(grid margins 1012400 612501 50 50 thermal)']
     for plant in range(8):
         kinds = ('(fuel {} 43013 74093)', '(mass {} 8593)', '(volume {} 991 8587)')
-        fuels = [kinds[(plant + k) % 3].format(100_000 + 777 * plant + 31 * k) for k in range(4)]
+        quantities = [100_000 + 777 * plant + 31 * k for k in range(4)]
+        fuels = [kinds[(plant + k) % 3 if plant < CARBON_PLANTS else 0].format(quantity)
+                 for k, quantity in enumerate(quantities)]
+        if plant >= CARBON_PLANTS:
+            fuels.insert(0, f'(heat {5_000_000_007 + 1_000_003 * plant})')
         lines.append(f'(plant {plant} {plant % 4} {7_000_000 + 1_111 * plant} {" ".join(fuels)})')
     for source in range(32):
         side = ('project', 'leakage', 'baseline')[source % 3]

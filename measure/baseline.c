@@ -19,7 +19,7 @@ struct fuel_line {
         struct { uint32_t density, carbon; } volume;
     };
 };
-struct plant { bool stands; uint8_t site, count; uint32_t generation; struct fuel_line lines[4]; };
+struct plant { bool stands; uint8_t site, count; uint32_t generation; uint64_t heat; struct fuel_line lines[4]; };
 struct source { bool stands; uint8_t side, supply, site, loss; uint16_t measured; uint64_t energy; };
 struct margins { uint32_t operating, build; uint8_t operating_weight, build_weight; };
 struct grid_entry { bool hydro, is_mean; union { uint32_t stated; struct margins margins; }; };
@@ -131,6 +131,21 @@ static void add_line(const struct fuel_line *l, uint64_t *down, uint64_t *up) {
     *up += divide(true, product, divisor);
 }
 
+// J of a plant. A carbon line has no calorific value.
+static uint64_t plant_energy(const struct plant *p) {
+    uint64_t energy = 0;
+    for (int i = 0; i < p->count; i++)
+        if (p->lines[i].kind == ENERGY) energy += (uint64_t)p->lines[i].quantity * p->lines[i].energy.ncv;
+    return energy;
+}
+
+// What is left of a plant's milligrams, rounded down, where heat is taken off.
+static uint64_t without_heat(const struct plant *p, uint64_t milligrams) {
+    if (p->heat == 0) return milligrams;
+    uint64_t energy = plant_energy(p);
+    return (energy - p->heat) * (milligrams * 1000 / energy) / 1000;
+}
+
 // A site's captive factor in a direction, or its refusal, 9 or 10.
 struct site_factor { uint8_t refused; uint32_t factor; };
 
@@ -147,8 +162,10 @@ static void site_factors(const struct ledger *l, struct site_factor factors[4][2
     for (int i = 0; i < 8; i++) {
         const struct plant *p = &l->plants[i];
         if (!p->stands) continue;
+        uint64_t lines_down = 0;
         generation[p->site] += p->generation;
-        for (int j = 0; j < p->count; j++) add_line(&p->lines[j], &down[p->site], &up[p->site]);
+        for (int j = 0; j < p->count; j++) add_line(&p->lines[j], &lines_down, &up[p->site]);
+        down[p->site] += without_heat(p, lines_down);
     }
     for (int site = 0; site < 4; site++) {
         factors[site][0] = site_factor(false, down[site], generation[site]);
@@ -193,6 +210,14 @@ static bool line_fits(const struct fuel_line *l) {
     }
 }
 
+// Whether the record is such as an accepted entry leaves: 1, 2, 16 and 17 are ruled out.
+static bool plant_intact(const struct plant *p) {
+    if (p->site > 3 || p->count > 4 || p->generation > 100000000) return false;
+    for (int i = 0; i < p->count; i++) if (!line_fits(&p->lines[i])) return false;
+    for (int i = 0; i < p->count; i++) if (p->heat > 0 && p->lines[i].kind != ENERGY) return false;
+    return p->heat == 0 || p->heat <= plant_energy(p);
+}
+
 static bool grid_intact(const struct grid *g) {
     uint32_t up, down;
     return !g->stands || (!judge_grid(&g->entry, &up, &down) && up == g->up && down == g->down);
@@ -201,12 +226,7 @@ static bool grid_intact(const struct grid *g) {
 // Whether the records are such as accepted entries leave, which the proved report looks at too.
 static bool intact(const struct ledger *l) {
     if (!grid_intact(&l->grid)) return false;
-    for (int i = 0; i < 8; i++) {
-        const struct plant *p = &l->plants[i];
-        if (!p->stands) continue;
-        if (p->site > 3 || p->count > 4 || p->generation > 100000000) return false;
-        for (int j = 0; j < p->count; j++) if (!line_fits(&p->lines[j])) return false;
-    }
+    for (int i = 0; i < 8; i++) if (l->plants[i].stands && !plant_intact(&l->plants[i])) return false;
     for (int i = 0; i < 32; i++) {
         const struct source *s = &l->sources[i];
         if (!s->stands) continue;
@@ -260,9 +280,12 @@ static struct grid_entry grid_of(uint32_t seed) {
 
 static uint8_t site_of(enum ledger_kind kind, uint32_t seed) { return kind == ONE_SITE ? 0 : seed % 4; }
 
+// About half of J where plants have heat.
+static uint64_t heat_of(enum ledger_kind kind, uint32_t seed) { return kind == HEATED_SITES ? 86000000 + (uint64_t)seed : 0; }
+
 static struct plant plant_of(enum ledger_kind kind, uint32_t seed) {
     struct fuel_line line = {.kind = ENERGY, .quantity = 1000 + seed % 1000, .energy = {43000, 74100}};
-    struct plant p = {true, site_of(kind, seed), 4, 70000, {line, line, line, line}};
+    struct plant p = {true, site_of(kind, seed), 4, 70000, heat_of(kind, seed), {line, line, line, line}};
     return p;
 }
 

@@ -25,12 +25,14 @@ static void put_call(uint32_t *words, uint32_t kind, uint32_t number, uint32_t f
     words[3] = last;
 }
 
+// Half of the plants have heat, in MJ, which a line of 1,000 units has, and the odd one more than any plant has.
 static void put_plant(uint32_t *words, uint32_t number) {
     uint32_t site = below(4), count = 1 + below(4), quantity = 1000 + below(1000), generation = 70000;
-    uint32_t fields = site + 10 * count;
+    uint32_t fields = site + 10 * count, heat = below(2) ? 1 + below(43000) : 0;
     if (odd_one()) fields = below(100);
     if (odd_one()) generation = below(110000000);
-    put_call(words, PLANT, number, fields, generation, quantity);
+    if (odd_one()) heat = 1000000;
+    put_call(words, PLANT, number, fields + 100 * heat, generation, quantity);
 }
 
 // Captive supplies carry no loss, the others a measured one or the default that is open to the side always.

@@ -1,4 +1,4 @@
-// The program tally in plain C, as a programmer would write it by hand from document 01 and wishes 1 to 4
+// The program tally in plain C, as a programmer would write it by hand from document 01 and wishes 1 to 5
 // of document 02: no proofs. The speed of tally is measured beside it, and its branches guide the fuzzer. It
 // is no third opinion on the rules: its author had read tests/reference.py, so the two may share a
 // misreading. Comments in quotation marks are the papers' sentences; a bare number is a refusal.
@@ -28,7 +28,8 @@ struct meter { bool single, minus; u64 ratio, first, last; };
 struct source { bool stands; enum side side; enum supply supply; u64 site; enum loss loss; u64 measured, energy; };
 // Q, and V and C of an energy line, W of one by mass, the density and W of one by volume.
 struct fuel { enum fuel_kind kind; u64 quantity, calorific, content, density, carbon; };
-struct plant { bool stands; u64 site, generation, milligrams[2]; }; // of its lines, rounded down and up
+// Heat and fuel in kJ, H and J, and the milligrams of its lines, rounded down and up.
+struct plant { bool stands; u64 site, generation, heat, energy, milligrams[2]; };
 struct margin { u64 factor, weight; }; // in mg/kWh and in percent
 // As entered, by a stated factor or by two margins, and the combined margin rounded down and up.
 struct grid { bool stands, hydro, by_margins; u64 stated; struct margin operating, build; u64 combined[2]; };
@@ -59,8 +60,8 @@ static void put_refused(int number) {
     put_number((u64)number);
 }
 
-// ---- Readings. No product below exceeds 64 bits: the largest are 3 × 10^18 of a fuel line and
-// 1.5 × 10^18 of U × F.
+// ---- Readings. No product below exceeds 64 bits: the largest are 1.2 × 10^19 of a plant with heat,
+// 3 × 10^18 of a fuel line and 1.5 × 10^18 of U × F.
 
 // "Project and leakage sources round up at every step, baseline sources down."
 static bool rounds_up(enum side side) { return side != BASELINE; }
@@ -164,14 +165,24 @@ static u64 fuel_milligrams(const struct fuel *f, bool up) {
     }
 }
 
+static bool has_carbon_line(const struct fuel *fuels, u64 count) {
+    for (u64 i = 0; i < count; i++)
+        if (fuels[i].kind != ENERGY) return true;
+    return false;
+}
+
+// "Heat above 0 beside a carbon line is refused 16, then heat above J is refused 17, both after 2."
 static int enter_plant(struct ledger *l, u64 number, struct plant p, const struct fuel *fuels, u64 count) {
     if (number >= PLANTS || p.site >= SITES) return 1;
     if (count > FUEL_LINES || p.generation > 100000000) return 2;
     for (u64 i = 0; i < count; i++) {
         if (fuel_refused(&fuels[i])) return 2;
+        p.energy += fuels[i].quantity * fuels[i].calorific; // 0 of a carbon line
         p.milligrams[0] += fuel_milligrams(&fuels[i], false);
         p.milligrams[1] += fuel_milligrams(&fuels[i], true);
     }
+    if (p.heat > 0 && has_carbon_line(fuels, count)) return 16;
+    if (p.heat > p.energy) return 17;
     l->plants[number] = p;
     return OK;
 }
@@ -217,6 +228,14 @@ static void add(struct sums *sums, const struct source *s) {
     }
 }
 
+// "For baseline the plant's milligrams become (J - H) × A ÷ 1,000, where J is the plant's summed Q × V and A
+// its fuel lines' rounded milligrams × 1,000 ÷ J, each rounded down". "H zero or unstated means as before."
+static u64 baseline_milligrams(const struct plant *p) {
+    if (p->heat == 0) return p->milligrams[0];
+    u64 content = p->milligrams[0] * 1000 / p->energy;
+    return (p->energy - p->heat) * content / 1000;
+}
+
 // *margins has P and B, "over combined or griddefault", *grid P' and B', over either too.
 static void add_up(const struct ledger *l, struct sums *margins, struct sums *grid, struct site sites[SITES]) {
     for (int i = 0; i < SOURCES; i++) {
@@ -229,7 +248,7 @@ static void add_up(const struct ledger *l, struct sums *margins, struct sums *gr
         const struct plant *p = &l->plants[i];
         if (!p->stands) continue;
         sites[p->site].generation += p->generation;
-        sites[p->site].milligrams[0] += p->milligrams[0];
+        sites[p->site].milligrams[0] += baseline_milligrams(p);
         sites[p->site].milligrams[1] += p->milligrams[1];
     }
 }
@@ -458,11 +477,18 @@ static int grid_line(struct ledger *l, struct text *t) {
     return read_number(t, &factor) && read_mark(t, &hydro) ? enter_stated(l, factor, hydro) : NO_FORM;
 }
 
+// "as (heat H) after G"
+static bool read_heat(struct text *t, u64 *heat) {
+    *heat = 0;
+    return !skip(t, " (heat ") || (read_number(t, heat) && skip(t, ")"));
+}
+
 static int plant_line(struct ledger *l, struct text *t) {
     struct plant p = {.stands = true};
     struct fuel fuels[FUEL_LINES];
     u64 number, count = 0;
     if (!read_number(t, &number) || !read_next(t, &p.site) || !read_next(t, &p.generation)) return NO_FORM;
+    if (!read_heat(t, &p.heat)) return NO_FORM;
     for (; skip(t, " "); count++) {
         struct fuel f;
         if (!read_fuel(t, &f)) return NO_FORM;

@@ -98,12 +98,27 @@ static void show_ratios(const struct ratio_answers *r) {
     if (!r->accepted || !r->refused) stop("a kind of answer to a ratio is missing");
 }
 
+// The answers to plant entries with heat: those accepted, and those refused 17.
+struct heat_answers { size_t accepted, refused; };
+
+static void count_heat(struct heat_answers *h, uint32_t heat, uint32_t told) {
+    if (heat == 0) return;
+    if (told == 17) h->refused++;
+    if (!told) h->accepted++;
+}
+
+static void show_heat(const struct heat_answers *h) {
+    printf("its plant entries: %zu with heat accepted, %zu refused 17\n", h->accepted, h->refused);
+    if (!h->accepted || !h->refused) stop("a kind of answer to heat is missing");
+}
+
 // The answer to a call is what the program's answers to the list up to it and to the list before it differ by:
 // 0 or the number of a refusal, and for a report its grams.
 static void count_answers(void) {
     size_t accepted = 0, refused = 0, given = 0, not_given = 0;
     struct grid_answers grid = {0, 0, 0, 0};
     struct ratio_answers ratios = {0, 0};
+    struct heat_answers heat = {0, 0};
     uint64_t before = 0;
     for (size_t i = 0; i < CALLS; i++) {
         uint64_t sum = owner_program(calls, (i + 1) * CALL_WORDS);
@@ -115,6 +130,7 @@ static void count_answers(void) {
         else if (told) refused++;
         else accepted++;
         if (calls[i * CALL_WORDS] % 10 == GRID) count_grid(&grid, calls[i * CALL_WORDS + 1], told);
+        if (calls[i * CALL_WORDS] % 10 == PLANT) count_heat(&heat, calls[i * CALL_WORDS + 1] / 100, told);
         if (calls[i * CALL_WORDS] % 10 == SOURCE) count_ratio(&ratios, calls[i * CALL_WORDS + 1] / 1000000, told);
         before = sum;
     }
@@ -123,6 +139,7 @@ static void count_answers(void) {
     if (!accepted || !refused || !given || !not_given) stop("a kind of answer is missing");
     show_grid(&grid);
     show_ratios(&ratios);
+    show_heat(&heat);
 }
 
 int main(void) {
@@ -137,7 +154,7 @@ int main(void) {
     };
     for (uint32_t i = 0; i < 32; i++) words[i] = 4 * one;
     // The call that each operation makes: it is accepted, whether it is read as an entry, of a grid by margins of
-    // weights 75 and 25 or of a plant with 4 lines, or as a drop.
+    // weights 75 and 25 or of a plant with 4 lines and heat, or as a drop.
     put_call(words + CALL_WORDS * one, PLANT, 1, 41 + 100 * 75 + 10000 * 25, 70000, 1000);
     put_calls(calls);
     count_answers();

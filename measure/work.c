@@ -13,7 +13,8 @@ uint64_t plain_source(const uint32_t *, uint32_t, uint32_t, uint32_t, uint32_t);
 uint64_t plain_report(const uint32_t *, uint32_t, uint32_t);
 
 static const char *const ledgers[LEDGER_KINDS] = {
-    [NO_SITE] = "no-site", [SOME_SITES] = "some-sites", [ONE_SITE] = "one-site", [EITHER_SITES] = "either-sites"};
+    [NO_SITE] = "no-site", [SOME_SITES] = "some-sites", [ONE_SITE] = "one-site", [EITHER_SITES] = "either-sites",
+    [HEATED_SITES] = "heated-sites"};
 
 // The ratio of the meters of a source entry, 0 where reports are measured.
 static uint32_t ratio_of(const char *measured) {

@@ -40,12 +40,15 @@ LEAST_LEAN = Fraction(0)
 METERS = 4  # of a source, with two readings each
 LOSS_UNITS = 10_000  # T counts parts of this
 MILLION = 1_000_000  # divides U × F to grams, and grams to tonnes
+THOUSAND = 1_000  # kJ in a MJ
 
 READING_WH = Fraction(1)
 ENERGY_WH = 2 * METERS * READING_WH
 # The limit of E with the largest loss, and one more rounding.
 LOSSES_WH = ENERGY_WH * Fraction(LOSS_UNITS + reference.MEASURED_LOSS_LIMIT, LOSS_UNITS) + 1
 LINE_MG = Fraction(1)
+PLANT_LINES = 4
+PLANT_MG = PLANT_LINES * LINE_MG + 1  # its lines, and what counts of them for electricity
 FACTOR_MG_PER_KWH = Fraction(11, 10)
 FACTOR_SLACK = 2  # covers that U and F lean at once: at least FACTOR_MG_PER_KWH
 GRAM = Fraction(1)
@@ -133,6 +136,19 @@ STEPS = {
                       f'{shown(REDUCTION_T)} t, and {A_SOURCE} source',
                       ('reduction-safe', 'reduction-near')),
 }
+# The same at a site where a plant also makes heat, for a baseline source that names the site.
+STEPS_WITH_HEAT = {
+    'plant': Step(f'a plant with heat: its fuel lines in mg × {THOUSAND:,} ÷ J, times J − H, '
+                  f'÷ {THOUSAND:,}', 'down, each of the two',
+                  f'{shown(PLANT_MG)} mg, and J ÷ {THOUSAND:,} mg',
+                  ('electricity-within',)),
+    'factor': Step("F: the site's plants in mg ÷ its generation in kWh", 'down',
+                   f'{FACTOR_SLACK} + K mg/kWh', ('chosen-sound',)),
+    'grams': Step(f'grams of a source = U × F ÷ {MILLION:,}', 'down',
+                  f'{shown(GRAM)} + ({shown(LOSSES_WH)} × (F + {FACTOR_SLACK} + K) + '
+                  f'({FACTOR_SLACK} + K) × U) ÷ {MILLION:,} g', ('figure-conservative',)),
+    'weight': Step('the same grams', 'as above', 'the same', ('figure-within-allowance',)),
+}
 # demand-3 states the limits of the last four; the others are stated by their own laws.
 BY_OTHER_LAWS = ('reading', 'energy', 'losses', 'line', 'factor')
 AT_THE_BOX = 'lines-demand-3'  # demand 3 for every list of lines
@@ -142,10 +158,10 @@ def quoted(laws) -> str:
     return ', '.join(f'`{law}`' for law in laws)
 
 
-def chain() -> str:
+def chain(steps: dict[str, Step]) -> str:
     return table(('Step', 'Rounded', 'Off by less than', 'Proved by'),
                  [cells(step.name, step.rounding, step.limit, quoted(step.laws))
-                  for step in STEPS.values()])
+                  for step in steps.values()])
 
 
 # 4. Rows: a figure of the report beside its exact value
@@ -386,7 +402,14 @@ def how_we_know() -> list[str]:
             through the grid, in parts of {LOSS_UNITS:,}. U is the energy with this loss. F is the
             emission factor, in milligrams of CO2 for each kilowatt-hour (mg/kWh). Beside each limit
             stands the law that proves it; docs/PROVED.md says where.'''),
-        chain()]
+        chain(STEPS),
+        paragraph(f'''A plant that also makes heat burns a part of its fuel for it. For project and
+            leakage nothing of that is taken off. For a baseline source it is, and that is rounded
+            too. H is the heat and J the energy of the plant's fuel, in kJ. K is J of all plants with
+            heat at the site, ÷ {THOUSAND:,}, ÷ the kWh that the site generated. A baseline source that
+            names such a site has these limits, and the last of them in place of
+            {shown(SOURCE_KG)} kg in the tonnes and in the reduction:'''),
+        chain(STEPS_WITH_HEAT)]
 
 
 def step_by_step(report: Followed) -> list[str]:
@@ -414,8 +437,8 @@ def closing() -> str:
         after any entries and drops from an empty ledger, refused ones included: the grams of each
         source, the tonnes of each side and the reduction stand on the safe side; the gap of each
         source, which is how far its grams are off, is below its limit and below {shown(SOURCE_KG)}
-        kg; and tonnes and reduction are off by less than their limits. Of readings, E, U, fuel
-        lines and F it does not say so. That these lean to the safe side, by less than their limits,
+        kg, or with heat below its limit alone; and tonnes and reduction are off by less than their
+        limits. Of readings, E, U, fuel lines and F it does not say so. That these lean to the safe side, by less than their limits,
         is what the other laws say, of every accepted entry: {others}. At the box, where each line is
         answered as it is typed, the same holds of every list of lines: `{AT_THE_BOX}`.''')
 
@@ -450,7 +473,9 @@ def laws_missing() -> list[str]:
 
 
 def laws_named() -> list[str]:
-    return ['demand-3', AT_THE_BOX, *(law for step in STEPS.values() for law in step.laws)]
+    steps = [*STEPS.values(), *STEPS_WITH_HEAT.values()]
+    laws = ['demand-3', AT_THE_BOX, *(law for step in steps for law in step.laws)]
+    return list(dict.fromkeys(laws))
 
 
 def check() -> int:

@@ -136,8 +136,50 @@ def side_by_tonnes() -> Case:
                 ('project, t', 'leakage, t', 'baseline, t'))
 
 
+# A site with heat, whose baseline sources have a limit with K
+
+HEATED_GAP = 'gap 0 by F, U and K, g'
+
+
+def half_left(*meters: str) -> list[str]:
+    """A is 1.5 cut to 1, so that F is 999,999 for an exact 1,500,000 mg/kWh; K is 1,000,000."""
+    return ['(grid 10000000 thermal)',
+            '(plant 0 0 1000 (heat 1) (fuel 100000000 5000 1) (fuel 100000000 5000 2))',
+            f'(source 0 baseline (either 0) (loss 5000) {" ".join(meters)})']
+
+
+def heat_by_energy() -> Case:
+    """750 t off, and so are the side and the reduction."""
+    return Case('gap by heat, (2 + K) x U -> 2 x U', half_left('(whole + 0 1000000000)'),
+                DEMAND_3._replace(heat_by_energy=0), (HEATED_GAP, 'baseline, t', 'reduction, t'))
+
+
+def heat_by_factor() -> Case:
+    """Eight readings, each nearly 1 Wh off: E 0 for an e of nearly 8, which is 12 with losses."""
+    return Case('gap by heat, 13 x (F + 2 + K) -> 13 x (F + 2)',
+                half_left(*4 * ['(single + 3a83126f 3b449ba5)']),
+                DEMAND_3._replace(heat_by_factor=0), (HEATED_GAP,))
+
+
+def many_plants_with_heat() -> Case:
+    """At the limit of E, 32 lines and 8 plants that each lose nearly 1 mg of a line, nearly 1 mg
+    of the plant and nearly 1 mg a MJ of its A, and the quotient nearly 1 mg/kWh."""
+    lines = ('(fuel 35 18 1373)', '(fuel 172 18 1802)', '(fuel 99 18 1445)', '(fuel 52 18 1797)')
+    plants = [f'(plant {n} 0 125 (heat 1) {" ".join(lines)})' for n in range(7)]
+    plants.append(f'(plant 7 0 125 (heat 1) {" ".join(lines[:3])} (fuel 64675 286 1637))')
+    return Case('gap by heat, (2 + K) x U -> (1 + K) x U',
+                ['(grid 10000000 thermal)', *plants, either(0, 'baseline', 10**11)],
+                DEMAND_3._replace(heated_energy_multiple=1), (HEATED_GAP,))
+
+
+def heated_allowance() -> Case:
+    return Case('allowance by heat, the limit -> 200 kg', half_left('(whole + 0 1000000000)'),
+                DEMAND_3._replace(heated_kilograms=200), ('baseline, t', 'reduction, t'))
+
+
 CASES = (gap_by_factor, gap_by_ratio, gap_by_energy, gap_by_carbon, gap_by_mean, gap_by_weight,
-         allowances, reduction_by_tonnes, side_by_tonnes)
+         allowances, reduction_by_tonnes, side_by_tonnes, heat_by_energy, heat_by_factor,
+         many_plants_with_heat, heated_allowance)
 
 
 def text(case: Case) -> bytes:

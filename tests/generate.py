@@ -18,11 +18,12 @@ from pathlib import Path
 
 import counterexamples
 import fuels
+import heat
 import margins
 import ratios
 import reference
 import sites
-from reference import EnergyLine, FuelLine, MassLine, Meter, VolumeLine
+from reference import EnergyLine, FuelLine, MassLine, Meter, Plant, VolumeLine
 
 LINES = 60
 
@@ -103,8 +104,13 @@ DAMAGES = (
     lambda rng, line: replaced(rng, line, rb' [0-9]+', lambda m: b''),
     lambda rng, line: replaced(rng, line, rb' [a-z]+\)', lambda m: b')'),
     lambda rng, line: replaced(rng, line, rb' [0-9]+\)', lambda m: m[:-1] + m),
-    lambda rng, line: replaced(rng, line, rb'\b(?:fuel|mass|volume)\b',
-                               lambda m: rng.choice((b'fuel', b'mass', b'volume'))),
+    lambda rng, line: replaced(rng, line, rb'\b(?:fuel|mass|volume|heat)\b',
+                               lambda m: rng.choice((b'fuel', b'mass', b'volume', b'heat'))),
+    lambda rng, line: replaced(rng, line, rb' \(heat [0-9]+\)', lambda m: m + m),
+    lambda rng, line: replaced(rng, line, rb' \(heat [0-9]+\) \([^)]*\)',
+                               lambda m: m[m.index(b')') + 1:] + m[:m.index(b')') + 1]),
+    lambda rng, line: replaced(rng, line, rb' [0-9]+ \(heat [0-9]+\)',
+                               lambda m: m[m.index(b' ('):] + m[:m.index(b' (')]),
     lambda rng, line: replaced(rng, line, rb'[a-z]', bytes.upper),
     lambda rng, line: replaced(rng, line, rb'[a-z]+', lambda m: m[:-1]),
     lambda rng, line: replaced(rng, line, rb'[0-9a-f]{8}', lambda m: m[1:]),
@@ -148,6 +154,13 @@ def with_rest(lines: list[FuelLine], little: tuple, milligrams: int) -> list[Fue
     whole = sum(reference.fuel_milligrams(line, up=False) for line in lines)
     rest = 1_000 * max(milligrams - whole, 0) + little[0].quantity
     return [*lines, EnergyLine(min(rest, 100_000_000), 1, 1)]
+
+
+def plant_text(number: int, plant: Plant, heat_shown: bool) -> str:
+    """A heat of 0 may be left out."""
+    heat_part = [f'(heat {plant.heat})'] if heat_shown else []
+    return ' '.join([f'(plant {number} {plant.site} {plant.generation}', *heat_part,
+                     *map(fuel_text, plant.fuel_lines)]) + ')'
 
 
 class Generator:
@@ -289,9 +302,10 @@ class Generator:
         first = self.rng.choice((*FIRST_WEIGHTS, self.rng.randint(0, 100)))
         return first, 100 - first
 
-    def fuel(self, generation: int) -> FuelLine:
+    def fuel(self, generation: int, kinds: tuple = tuple(FUEL_LIMITS)) -> FuelLine:
         """Burnt for so many kWh, mostly at less than 10,000,000 mg/kWh."""
-        kind, limits = self.rng.choice(list(FUEL_LIMITS.items()))
+        kind = self.rng.choice(kinds)
+        limits = FUEL_LIMITS[kind]
         if self.chance(0.2):
             return kind(*map(self.number, limits))
         if self.chance(0.4):
@@ -313,12 +327,43 @@ class Generator:
         return self.plant_at(number, self.index(3), generation)
 
     def plant_at(self, number: int, site: int, generation: int) -> str:
+        if self.chance(0.45):
+            return plant_text(number, self.plant_with_heat(site, generation), heat_shown=True)
         if generation > 0 and self.chance(0.3):
             lines = self.tight_fuels(generation)
         else:
             count = self.rng.choice((0, 1, 1, 2, 3, 4, 4, self.rng.randint(0, 6)))
             lines = [self.fuel(generation) for _ in range(count)]
-        return ' '.join([f'(plant {number} {site} {generation}', *map(fuel_text, lines)]) + ')'
+        return plant_text(number, Plant(site, generation, lines), heat_shown=self.chance(0.1))
+
+    def plant_with_heat(self, site: int, generation: int) -> Plant:
+        """Mostly of energy lines alone."""
+        if generation > 0 and self.chance(0.3):
+            return self.tight_heat(site, generation)
+        kinds = tuple(FUEL_LIMITS) if self.chance(0.15) else (EnergyLine,)
+        lines = [self.fuel(generation, kinds) for _ in range(self.rng.choice((1, 1, 2, 3, 4, 0)))]
+        if self.chance(self.out_of_range):
+            lines += 4 * [self.fuel(generation, kinds)]
+        plant = Plant(site, generation, lines)
+        return plant._replace(heat=self.heat(plant.fuel_energy))
+
+    def tight_heat(self, site: int, generation: int) -> Plant:
+        """What is left is near a whole factor: so many kJ of C mg a MJ each."""
+        content = self.rng.choice((1, 7, 500, 999, 1_000, 1_001, self.rng.randint(1, 200_000)))
+        factor = self.rng.randint(1, 9)
+        left = factor * generation * 1_000 // content + self.rng.randint(-1, 1)
+        line = EnergyLine(self.rng.choice((1_000, 999)) * self.rng.randint(1, 100),
+                          self.rng.randint(1, 150_000), content)
+        energy = line.quantity * line.net_calorific_value
+        return Plant(site, generation, [line], max(energy - max(left, 0), 1))
+
+    def heat(self, energy: int) -> int:
+        """Of so many kJ of fuel; mostly not above it."""
+        if self.chance(0.1 + self.out_of_range):
+            return self.rng.choice((energy + 1, energy + 1, 2 * energy + 1, LARGEST,
+                                    2**32 + self.rng.randint(0, energy)))
+        return self.rng.choice((1, energy, max(energy - 1, 0), energy // 2, 0,
+                                self.rng.randint(0, energy), self.rng.randint(0, energy)))
 
     def loss(self, supply: str) -> str:
         if self.chance(0.03):
@@ -489,6 +534,10 @@ FIELDS = (
     ('(plant 0 0 0 (volume {} 0 0))', 100_000_000),
     ('(plant 0 0 0 (mass 0 0) (volume 0 {} 10000))', 2_000),
     ('(plant 0 0 0 (volume 0 0 0) (volume 100000000 0 {}))', 10_000),
+    ('(plant 0 0 0 (heat {}) (fuel 100 100 0))', 10_000), ('(plant 0 0 0 (heat {}) (mass 1 1))', 1),
+    ('(plant 0 0 0 (heat {}) (fuel 100000000 150000 1))', 15 * 10**12),
+    ('(plant 0 0 0 (heat 100000) (fuel {} 100 0))', 1_000),
+    ('(plant 0 0 0 (heat 100000) (fuel 100 {} 0))', 1_000),
     ('(source {} project (combined) (loss 0) (whole + 0 1))', 31),
     ('(source 0 project (captive {}) (none) (whole + 0 1))', 3),
     ('(source 0 project (either {}) (loss 0) (whole + 0 1))', 3),
@@ -515,6 +564,7 @@ def limits() -> bytes:
 NUMBERED = ('(grid 1000000 hydro)', '(grid margins 1000001 500000 40 60 thermal)',
             '(plant 7 3 1000 (fuel 1000 43000 7410) (fuel 2000 1000 999))',
             '(plant 5 3 2000 (mass 1000 859) (volume 200 991 8590) (volume 3 700 9))',
+            '(plant 4 3 300 (heat 6000000) (fuel 1000 8000 70) (fuel 90 50 1009))',
             '(plant 0 0 5' + 4 * ' (fuel 0 1 0)' + ')',
             '(source 31 project (captive 3) (none) (whole + 1000 500000))',
             '(source 1 baseline (either 3) (loss 1000) (whole + 0 90000) (whole - 200 300))',
@@ -567,7 +617,7 @@ def alone_at_zero() -> bytes:
 
 def hand_worked() -> list[bytes]:
     return [joined(line for line, _ in pairs)
-            for lists in (margins.LISTS, fuels.LISTS, sites.LISTS, ratios.LISTS)
+            for lists in (margins.LISTS, fuels.LISTS, sites.LISTS, ratios.LISTS, heat.LISTS)
             for pairs in lists.values()]
 
 
@@ -632,6 +682,82 @@ def mixed_kinds() -> bytes:
     return joined(lines)
 
 
+def heat_around_fuel() -> bytes:
+    """Each heat round J of each row of lines, by itself and beside the next plant's."""
+    lines = captive_on_both_sides()
+    rows = ([EnergyLine(1, 43_000, 74_100)], [EnergyLine(1, 3, 1_000), EnergyLine(1, 4, 1)],
+            [EnergyLine(10**8, 5_000, 1), EnergyLine(10**8, 5_000, 2)],
+            [EnergyLine(99_999, 1, 1_001)], [EnergyLine(0, 9, 9), EnergyLine(5, 1, 200_000)],
+            4 * [EnergyLine(50_000, 100_000, 7)], [EnergyLine(0, 1, 1)], [])
+    for at, row in enumerate(rows):
+        energy = Plant(0, 0, row).fuel_energy
+        for kilojoules in sorted({0, 1, energy // 2, max(energy - 1, 0), energy, energy + 1,
+                                  2**32 + energy, 2**32 + 1, 2**32, LARGEST}):
+            plant = Plant(0, 1_000, row, kilojoules)
+            lines += [plant_text(at % 2, plant, heat_shown=True), '(report)']
+    return joined(lines)
+
+
+def heat_and_steps() -> bytes:
+    """What is left is round whole factors, of contents of which 1,000 is no multiple, and of Q ×
+    V × C that are whole milligrams and not; of each mg/kWh a report shows 1,000 g."""
+    lines = captive_on_both_sides()
+    for content, quantity in product((1, 7, 999, 1_000, 1_001, 1_999, 74_093, 200_000),
+                                     (1_000, 999, 10**6, 10**6 - 1)):
+        energy = quantity * 149_999
+        for left, more in product((1_000, 2_000, 999_000), (-1, 0, 1)):
+            kilojoules = energy - left * 1_000 // content - more
+            if 0 < kilojoules <= energy:
+                lines += [f'(plant 0 0 1000 (heat {kilojoules})'
+                          f' (fuel {quantity} 149999 {content}))', '(report)']
+    return joined(lines)
+
+
+def heat_and_carbon() -> bytes:
+    """A carbon line at each place, or none, with heats below, at and above J, and 0."""
+    lines = captive_on_both_sides()
+    for count, carbon, at in product((1, 2, 3, 4), (MassLine(1, 1), VolumeLine(1, 1, 1)),
+                                     range(-1, 4)):
+        row = [carbon if place == at else EnergyLine(1, 100, 1_000) for place in range(count)]
+        for kilojoules in (0, 1, 100 * count - 100, 100 * count, 100 * count + 1, 2**32):
+            plant = Plant(0, 1_000, row, kilojoules)
+            lines += [plant_text(at % 3, plant, heat_shown=True), '(report)']
+    return joined(lines)
+
+
+def sites_with_heat() -> bytes:
+    """Three plants at a site, with heat or without, each by turns, and one at the next site; all
+    sides name the first, by captive and by either, whose grid lies below, between and above."""
+    lines = [f'(source {n} {side} ({supply}) ({loss}) (whole + 0 1000000000))'
+             for n, (side, (supply, loss)) in enumerate(product(reference.SIDES, (
+                 ('captive 0', 'none'), ('either 0', 'loss 0'), ('either 1', 'loss 5000'),
+                 ('captivedefault', 'none'))))]
+    lines.append('(plant 3 1 1000 (heat 9) (fuel 10 1000 99))')
+    for heats in product((None, 0, 1, 200_000_000, 500_000_000), repeat=3):
+        for at, (kilojoules, content) in enumerate(zip(heats, (1, 3, 7))):
+            row = [EnergyLine(10**5, 5_000, content), EnergyLine(3, 11, 997)]
+            plant = Plant(0, 300 + 100 * at, row, kilojoules or 0)
+            lines.append(plant_text(at, plant, heat_shown=kilojoules is not None))
+        for margin in (0, 1_000, 3_000, 10_000):
+            lines += [f'(grid {margin} hydro)', '(report)']
+    return joined(lines)
+
+
+def plant_precedence() -> bytes:
+    """Each set of defects in a plant entry: the first number of the set answers. For 1 it is the
+    number or the site, for 2 the generation, a line or the count of lines."""
+    lines = []
+    for defects, one, two in product(range(16), range(2), range(3)):
+        has = [defects >> bit & 1 for bit in range(4)]
+        row = ['(fuel 1 10 1)', *has[2] * ['(mass 1 1)']]
+        row += (has[1] and two == 1) * ['(fuel 1 0 1)'] + (has[1] and two == 2) * 4 * row[:1]
+        number, site = (8, 0) if has[0] and one == 0 else (0, 3 + has[0])
+        generation = 100_000_000 + (has[1] and two == 0)
+        kilojoules = 9 if not has[3] else (51, LARGEST)[one]
+        lines.append(f'(plant {number} {site} {generation} (heat {kilojoules}) {" ".join(row)})')
+    return joined(lines)
+
+
 def comparisons() -> bytes:
     """P against B and P' against B' one below, equal and one above."""
     lines = ['(plant 0 0 1000)']
@@ -670,10 +796,27 @@ def largest_report() -> bytes:
     return joined(lines)
 
 
+def largest_heat() -> bytes:
+    """8 plants of 4 lines at every limit, with heats that leave them at the factor's limit and
+    round it, named by sources at every limit."""
+    lines = ['(grid 10000000 thermal)']
+    at_limit = 5 * 10**12
+    for left in (1, 10**12 - 1, at_limit, at_limit + 499_999, at_limit + 500_000, 6 * 10**13 - 1):
+        plant = Plant(3, 10**8, 4 * [LARGEST_LINES[0]], 6 * 10**13 - left)
+        lines += [plant_text(n, plant, heat_shown=True) for n in range(8)]
+        for supply, side in product(('either 3) (loss 5000', 'captive 3) (none'),
+                                    ('baseline', 'project')):
+            lines += [f'(source {n} {side} ({supply}) (whole + 0 100000000000))'
+                      for n in range(32)] + ['(report)']
+    return joined(lines)
+
+
 def counts() -> bytes:
     """Any count of fuel lines or meters is a form, up to the length of a line."""
     lines = ['(plant 0 0 1000' + n * fuel + ')'
              for fuel in (' (fuel 1 1 1)', ' (mass 1 1)', ' (volume 1 1 1)') for n in range(23)]
+    lines += [f'(plant 0 0 1000 (heat {kilojoules})' + n * ' (fuel 1 1 1)' + ')'
+              for kilojoules in (0, 3) for n in range(18)]
     lines += ['(source 0 project (combined) (loss 0)' + n * meter + ')'
               for meter in (' (whole + 0 1)', ' (whole 9 + 0 1)') for n in range(17)]
     lines += ['(source 0 project (combined) (loss 0)' + n * ' (single - 00000000 00000000)' + ')'
@@ -685,6 +828,7 @@ def line_lengths() -> bytes:
     """The same entries at 255, 256 and 257 bytes: refused 2, 2 and 14."""
     lines = []
     for line in ('(plant 0 0 1000' + 18 * ' (fuel 1 1 1)' + ')',
+                 '(plant 0 0 1000 (heat 1)' + 17 * ' (fuel 1 1 1)' + ')',
                  '(source 0 project (combined) (loss 1000)' + 15 * ' (whole + 0 1)' + ')'):
         lines += [line.replace('1000', '1' + (length - len(line) + 3) * '0')
                   for length in (255, 256, 257)]
@@ -742,6 +886,7 @@ def report_precedence() -> bytes:
 SAMPLES = ('(grid 812400 thermal)', '(grid 1 hydro)', '(grid margins 812401 20 100 0 thermal)',
            '(grid margins 7 8 49 51 hydro)', '(plant 0 1 7000 (fuel 1000 43000 74100))',
            '(plant 1 1 5 (mass 90 8600) (fuel 1 2 3) (volume 20 991 8590))',
+           '(plant 2 1 60 (heat 70) (fuel 10 9 8))',
            '(source 10 project (captive 1) (none) (whole + 10 11))',
            '(source 0 leakage (either 1) (loss 20) (single - 3f800000 4cbebc20))',
            '(source 0 baseline (griddefault) (default3) (whole - 0 0))',
@@ -785,8 +930,9 @@ def boundary_inputs() -> list[bytes]:
         registers_at_rest(), register_pairs(), limits(), *hand_worked(), ratios_at_the_limit(),
         products_that_wrap(), ratios_and_signs(),
         margins_and_weights(), means_by_captive(), largest_means(), generation_limits(),
-        parts_of_milligrams(), mixed_kinds(), alone_at_zero(), comparisons(),
-        source_precedence(), report_precedence(), largest_report(), counts(),
+        parts_of_milligrams(), mixed_kinds(), heat_around_fuel(), heat_and_steps(),
+        heat_and_carbon(), sites_with_heat(), alone_at_zero(), comparisons(), plant_precedence(),
+        source_precedence(), report_precedence(), largest_report(), largest_heat(), counts(),
         line_lengths(), *long_last_lines(), odd_bytes(), *malformed_by_place(),
         *(numbers_in_fields([value]) for value in WIDE), numbers_in_fields(ZEROS_BEFORE),
         *(counterexamples.text(make()) for make in counterexamples.CASES)]
@@ -859,15 +1005,23 @@ def deciding_lines(ledger: reference.Ledger, report: reference.Report) -> set[tu
 
 
 def lines_deciding(ledger: reference.Ledger, site: int, up: bool) -> list[FuelLine]:
-    lines = [line for plant in reference.plants_at(ledger, site) for line in plant.fuel_lines]
-    milligrams = sum(reference.fuel_milligrams(line, up) for line in lines)
     factor = reference.captive_factor(ledger, site, up)
 
-    def other_factor(line: FuelLine) -> int:
-        other = (milligrams - reference.fuel_milligrams(line, up)
+    def other_factor(plant: Plant, line: FuelLine) -> int:
+        lines = sum(reference.fuel_milligrams(each, up) for each in plant.fuel_lines)
+        other = (lines - reference.fuel_milligrams(line, up)
                  + reference.fuel_milligrams(line, not up))
-        return reference.factor_over(other, reference.generation_at(ledger, site), up)
-    return [line for line in lines if other_factor(line) != factor]
+        return factor_with(ledger, plant, reference.without_heat(plant, other, up), up)
+    return [line for plant in reference.plants_at(ledger, site) for line in plant.fuel_lines
+            if other_factor(plant, line) != factor]
+
+
+def factor_with(ledger: reference.Ledger, plant: Plant, milligrams: int, up: bool) -> int:
+    """The factor of a plant's site, had the plant so many milligrams."""
+    others = sum(reference.plant_milligrams(other, up)
+                 for other in reference.plants_at(ledger, plant.site) if other is not plant)
+    return reference.factor_over(others + milligrams,
+                                 reference.generation_at(ledger, plant.site), up)
 
 
 DECIDING_LINES = 6  # 3 kinds by 2 directions
@@ -961,6 +1115,11 @@ def meters_of(line: bytes) -> list[Meter]:
     return [reference.read_meter(*parts) for parts in reference.METER_PARTS.findall(line)]
 
 
+def plant_of(line: bytes) -> Plant:
+    """That of a line that is a form."""
+    return reference.read_plant(reference.PLANT_FORM.fullmatch(line))
+
+
 def fractions_by_ratio(ledger: reference.Ledger) -> set[tuple]:
     """Side and sign of the meters that by a ratio have a reading which is no whole Wh."""
     return {(source.side, m.sign) for source in ledger.sources.values() for m in source.meters
@@ -969,13 +1128,81 @@ def fractions_by_ratio(ledger: reference.Ledger) -> set[tuple]:
 
 FRACTIONS_BY_RATIO = 6  # 3 sides by 2 signs
 
-# The answers that lines with these parts should meet; a ratio written as 1 is one of them.
+
+def is_16(plant: Plant) -> bool:
+    return reference.heat_refused(plant) == 16
+
+
+# What plant entries meet by their heat: the answer, and what holds of the plant.
+HEAT_CASES = {
+    '1': (reference.OK, lambda p: p.heat == 1),
+    'J - 1': (reference.OK, lambda p: p.heat == p.fuel_energy - 1 > 0),
+    'J': (reference.OK, lambda p: p.heat == p.fuel_energy > 0),
+    'J + 1': (17, lambda p: p.heat == p.fuel_energy + 1 > 1),
+    'without fuel': (17, lambda p: p.fuel_energy == 0),
+    'above 32 bits': (reference.OK, lambda p: p.heat >= 2**32),
+    'within J by 32 bits': (17, lambda p: p.heat >= 2**32 and p.heat % 2**32 <= p.fuel_energy),
+    'of 18 digits': (17, lambda p: p.heat == LARGEST),
+    'beside carbon': (16, lambda p: p.heat <= p.fuel_energy),
+    'beside carbon and above J': (16, lambda p: p.heat > p.fuel_energy),
+    '0 beside carbon': (reference.OK, lambda p: not p.gives_heat and is_16(p._replace(heat=1))),
+    '16 after 1': (1, is_16), '17 after 1': (1, lambda p: reference.heat_refused(p) == 17),
+    '16 after 2': (2, is_16), '17 after 2': (2, lambda p: reference.heat_refused(p) == 17)}
+
+
+def heat_cases(plant: Plant, answer) -> set[str]:
+    return {name for name, (due, holds) in HEAT_CASES.items() if answer == due and holds(plant)}
+
+
+def sources_by_heat(ledger: reference.Ledger, report: reference.Report) -> set[tuple]:
+    """Side, supply and option of the sources that name a site with heat."""
+    return {(source.side, source.supply.name, report.figures[number].option)
+            for number, source in ledger.sources.items()
+            if source.supply.name in reference.SITE_SUPPLIES
+            and reference.site_heat(ledger, source.supply.site) is not None}
+
+
+SOURCES_BY_HEAT = 9  # 3 sides by captive and either with its two options
+
+# What a baseline's factor shows of a plant with heat: that it is taken off, each rounding on the
+# way, and whether other plants, with heat or without, are at the site.
+HEAT_STEPS = {'heat', 'lines', 'A', 'Z', 'beside heat', 'beside none'}
+
+
+def without_step(plant: Plant, step: str) -> int:
+    """A plant's milligrams of a baseline without its heat, or with one rounding up."""
+    lines = sum(reference.fuel_milligrams(line, step == 'lines') for line in plant.fuel_lines)
+    if step == 'heat':
+        return lines
+    A = reference.rounded(Fraction(lines * 1_000, plant.fuel_energy), step == 'A')
+    return reference.rounded(Fraction((plant.fuel_energy - plant.heat) * A, 1_000), step == 'Z')
+
+
+def heat_steps(ledger: reference.Ledger, report: reference.Report) -> set[str]:
+    """Those that factors show which a baseline source takes."""
+    found = set()
+    for site in {source.supply.site for number, source in ledger.sources.items()
+                 if source.side == 'baseline' and report.figures[number].option == 'captive'}:
+        plants = reference.plants_at(ledger, site)
+        factor = reference.captive_factor(ledger, site, up=False)
+        for plant in (plant for plant in plants if plant.gives_heat):
+            found |= {step for step in ('heat', 'lines', 'A', 'Z') if factor != factor_with(
+                ledger, plant, without_step(plant, step), up=False)}
+            found |= {'beside heat' if other.gives_heat else 'beside none'
+                      for other in plants if other is not plant}
+    return found
+
+
+# The answers that lines with these parts should meet; a ratio written as 1 is one of them, and
+# so is a heat written as 0.
 OF_A_SOURCE = {b'ok', *(b'refused %d' % number for number in (1, 2, 3, 4, 5, 6, 14))}
 ANSWERS_TO = {rb'margins': {b'ok', b'refused 2', b'refused 14', b'refused 15'},
-              rb'\(mass': {b'ok', b'refused 1', b'refused 2', b'refused 14'},
-              rb'\(volume': {b'ok', b'refused 1', b'refused 2', b'refused 14'},
+              rb'\(mass': {b'ok', b'refused 1', b'refused 2', b'refused 14', b'refused 16'},
+              rb'\(volume': {b'ok', b'refused 1', b'refused 2', b'refused 14', b'refused 16'},
               rb'\((whole|single) [0-9]+ [+-]': OF_A_SOURCE,
-              rb'\((whole|single) 1 [+-]': OF_A_SOURCE}
+              rb'\((whole|single) 1 [+-]': OF_A_SOURCE,
+              rb'\(heat 0\)': {b'ok', b'refused 1', b'refused 2', b'refused 14'},
+              rb'\(heat [1-9]': {b'ok', *(b'refused %d' % number for number in (1, 2, 14, 16, 17))}}
 
 
 class Met:
@@ -991,6 +1218,10 @@ class Met:
         self.aside = Counter()  # reports given beside such a refusal of a site
         self.ratios = Counter()  # source entries by what they meet
         self.fractions = set()  # readings by a ratio that are no whole Wh
+        self.heats = Counter()  # plant entries by what they meet
+        self.by_heat = Counter()  # sources that name a site with heat, in reports given
+        self.baselines_by_heat = 0  # reports given with one of a baseline
+        self.steps = Counter()  # what factors of a baseline show of heat
         self.answers_to = {part: set() for part in ANSWERS_TO}
         self.most_sources = 0
 
@@ -1013,9 +1244,11 @@ class Met:
         for part, answers in self.answers_to.items():
             if re.search(part, line):
                 answers.add(answer)
-        if line.startswith(b'(source ') and answer != b'refused 14':
-            number = reference.OK if answer == b'ok' else int(answer.split()[1])
+        number = int(answer.split()[1]) if answer.startswith(b'refused') else reference.OK
+        if line.startswith(b'(source ') and number != 14:
             self.ratios.update(ratio_cases(meters_of(line), number, EVERY_RATIO_CASE))
+        if line.startswith(b'(plant ') and number != 14:
+            self.heats.update(heat_cases(plant_of(line), number))
 
     def report_given(self, ledger: reference.Ledger, report: reference.Report):
         reference.check_demand_3(ledger, report)
@@ -1026,6 +1259,10 @@ class Met:
         self.lines |= deciding_lines(ledger, report)
         self.aside.update(refused_aside(ledger))
         self.fractions |= fractions_by_ratio(ledger)
+        by_heat = sources_by_heat(ledger, report)
+        self.by_heat.update(by_heat)
+        self.baselines_by_heat += 'baseline' in {side for side, _, _ in by_heat}
+        self.steps.update(heat_steps(ledger, report))
 
     def show(self, name: str):
         refusals = ', '.join(f'{n}: {self.refusals[n]}' for n in sorted(self.refusals))
@@ -1040,11 +1277,21 @@ class Met:
         print(f'  reports given with a site refused {aside}')
         cases = ', '.join(f'{name}: {self.ratios[name]}' for name in EVERY_RATIO_CASE)
         print(f'  source entries by ratios, {cases}')
+        self.show_heat()
+
+    def show_heat(self):
+        cases = ', '.join(f'{name}: {self.heats[name]}' for name in HEAT_CASES)
+        print(f'  plant entries by heat, {cases}')
+        sources = ', '.join(f'{" ".join(kind)}: {self.by_heat[kind]}'
+                            for kind in sorted(self.by_heat))
+        steps = ', '.join(f'{step}: {self.steps[step]}' for step in sorted(HEAT_STEPS))
+        print(f'  reports given with sources that name a site with heat, {sources}')
+        print(f'  reports given whose factor of a baseline shows of heat, {steps}')
 
 
 def missing(at_random: Met, by_hand: Met) -> list[str]:
     """What the inputs should have met and did not."""
-    refusals = {*range(1, 13), 14, 15}  # 13 cannot occur within the limits
+    refusals = {*range(1, 13), *range(14, 18)}  # 13 cannot occur within the limits
     wanted = {
         'every refusal but 13, at random': set(at_random.refusals) == refusals,
         'every refusal but 13, by hand': set(by_hand.refusals) == refusals,
@@ -1052,9 +1299,9 @@ def missing(at_random: Met, by_hand: Met) -> list[str]:
         'a third of the lines malformed in a tenth of the inputs':
             at_random.mostly_malformed * 10 >= at_random.inputs,
         'every kind of source reported': len(at_random.kinds) == SOURCE_KINDS,
-        'every answer to margins, lines by carbon and ratios, at random':
+        'every answer to margins, lines by carbon, ratios and heat, at random':
             at_random.answers_to == ANSWERS_TO,
-        'every answer to margins, lines by carbon and ratios, by hand':
+        'every answer to margins, lines by carbon, ratios and heat, by hand':
             by_hand.answers_to == ANSWERS_TO,
         'every case of ratios, at random': set(at_random.ratios) == set(EVERY_RATIO_CASE),
         'every case of ratios, by hand': set(by_hand.ratios) == set(EVERY_RATIO_CASE),
@@ -1072,7 +1319,18 @@ def missing(at_random: Met, by_hand: Met) -> list[str]:
         'sites refused 9 and 10 that no source names, or names the other way, by hand':
             set(by_hand.aside) == REFUSED_ASIDE,
         'every sign and exponent of a register': len(by_hand.sign_and_exponent) == 512}
+    wanted |= wanted_of_heat(at_random, 'at random') | wanted_of_heat(by_hand, 'by hand')
+    wanted['a baseline source that names a site with heat in a tenth of the reports given, at'
+           ' random'] = at_random.baselines_by_heat * 10 >= at_random.given
     return [what for what, met in wanted.items() if not met]
+
+
+def wanted_of_heat(met: Met, where: str) -> dict[str, bool]:
+    return {
+        f'every case of heat, {where}': set(met.heats) == set(HEAT_CASES),
+        f'every kind of source that names a site with heat, {where}':
+            len(met.by_heat) == SOURCES_BY_HEAT,
+        f'every step of heat shown by a factor, {where}': set(met.steps) == HEAT_STEPS}
 
 
 def self_check(seeds: int = 300) -> int:

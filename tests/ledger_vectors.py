@@ -12,24 +12,27 @@ or hydro (1). A grid record that is stored has these six, and then the combined
 margin rounded up and rounded down, whatever they are.
 
 A fuel line has four arguments: its kind, energy (0), mass (1) or volume (2), and three
-figures, Q, V and C, or Q, W and one that is not read, or Q, density and W. So a plant
-entry has 20 arguments, and a plant record that is stored 21. A meter has five: its ratio,
-sign, kind, first and last reading. The widest call is a source entry, with 27.
+figures, Q, V and C, or Q, W and one that is not read, or Q, density and W. A plant entry has
+its number, site, generation, heat and count before its four lines, 21 arguments in all, and a
+plant record that is stored 22. A meter has five: its ratio, sign, kind, first and last
+reading. The widest call is a source entry, with 27.
 """
 
 from collections import Counter
 from itertools import cycle, product
 
+import heat
 import ratios
 import reference
 import sites
 from generate import (DECIDING_LINES, EQUAL_ENERGIES, EQUAL_RATIOS, FIRST_WEIGHTS,
-                      FRACTIONS_BY_RATIO, FUEL_LIMITS, LARGEST_FACTORS, LARGEST_LINES,
-                      LAST_REGISTER, LITTLE_ABOVE, LITTLE_BELOW, PARTS_OF_MILLIGRAMS, RATIO_CASES,
-                      RATIO_LIMIT, REFUSED_ASIDE, SOURCE_KINDS, SOURCE_MEANS, SPECIAL_REGISTERS,
-                      SUPPLIES, UNNAMED, captive_factors, deciding_lines, fractions_by_ratio,
+                      FRACTIONS_BY_RATIO, FUEL_LIMITS, HEAT_CASES, HEAT_STEPS, LARGEST_FACTORS,
+                      LARGEST_LINES, LAST_REGISTER, LITTLE_ABOVE, LITTLE_BELOW,
+                      PARTS_OF_MILLIGRAMS, RATIO_CASES, RATIO_LIMIT, REFUSED_ASIDE, SOURCE_KINDS,
+                      SOURCE_MEANS, SOURCES_BY_HEAT, SPECIAL_REGISTERS, SUPPLIES, UNNAMED,
+                      captive_factors, deciding_lines, fractions_by_ratio, heat_cases, heat_steps,
                       kinds_of, last_register, means_of, meters_of, ratio_cases, refused_aside,
-                      with_rest)
+                      sources_by_heat, with_rest)
 from reference import (SIDES, EnergyLine, FuelLine, Loss, Margins, MassLine, Meter, Plant, Source,
                        Supply, VolumeLine)
 
@@ -129,6 +132,10 @@ class Calls:
         self.aside = set()  # refusals of sites that reports given do not show
         self.ratios = set()  # what source entries meet
         self.fractions = set()  # readings by a ratio that are no whole Wh
+        self.heats = set()  # what plant entries meet
+        self.by_heat = set()  # sources that name a site with heat
+        self.steps = set()  # what factors of a baseline show of heat
+        self.damaged_heats = set()  # refusals 16 and 17 that records stored would have met
         self.unread = cycle(UNREAD)
         self.new()
 
@@ -154,18 +161,21 @@ class Calls:
         return self.add_entry((GRID, *grid_fields(entered, mark)), ('grid',),
                               self.ledger.enter_grid(entered, mark))
 
-    def plant_call(self, number: int, site: int, generation: int, lines: tuple, count: int | None):
+    def plant_call(self, number: int, plant: Plant, count: int | None):
         """The fields, and the plant with the lines that count."""
+        lines = tuple(plant.fuel_lines)
         count = len(lines) if count is None else count
         fields = [field for line in placed(lines, NO_LINES)
                   for field in fuel_fields(line, next(self.unread))]
-        return ((number, site, generation, count, *fields),
-                Plant(site, generation, counted(lines, count, NO_LINES)))
+        return ((number, plant.site, plant.generation, plant.heat, count, *fields),
+                plant._replace(fuel_lines=counted(lines, count, NO_LINES)))
 
-    def plant(self, number: int, site: int, generation: int, *lines: FuelLine, count=None):
-        fields, plant = self.plant_call(number, site, generation, lines, count)
-        return self.add_entry((PLANT, *fields), ('plant', number),
-                              self.ledger.enter_plant(number, plant))
+    def plant(self, number: int, site: int, generation: int, *lines: FuelLine, heat: int = 0,
+              count=None):
+        fields, plant = self.plant_call(number, Plant(site, generation, lines, heat), count)
+        answer = self.ledger.enter_plant(number, plant)
+        self.heats |= heat_cases(plant, answer)
+        return self.add_entry((PLANT, *fields), ('plant', number), answer)
 
     def source(self, number: int, side: str, supply: Supply, loss: Loss, *meters: Meter,
                count=None):
@@ -202,6 +212,8 @@ class Calls:
             self.lines |= deciding_lines(self.ledger, answer)
             self.aside |= refused_aside(self.ledger)
             self.fractions |= fractions_by_ratio(self.ledger)
+            self.by_heat |= sources_by_heat(self.ledger, answer)
+            self.steps |= heat_steps(self.ledger, answer)
         return self.add(fields, answer)
 
     # Lines of text, whose reader calls these as it calls a ledger
@@ -213,7 +225,8 @@ class Calls:
         return self.grid(entered, mark)
 
     def enter_plant(self, number: int, plant: Plant):
-        return self.plant(number, plant.site, plant.generation, *plant.fuel_lines)
+        return self.plant(number, plant.site, plant.generation, *plant.fuel_lines,
+                          heat=plant.heat)
 
     def enter_source(self, number: int, source: Source):
         return self.source(number, source.side, source.supply, source.loss, *source.meters)
@@ -235,11 +248,13 @@ class Calls:
         self.mark(('grid',), self.ledger.enter_grid(entered, mark), as_kept)
         return self.add_report((STORED_GRID, *grid_fields(entered, mark), *stored))
 
-    def store_plant(self, number: int, site: int, generation: int, *lines: FuelLine, count=None,
-                    stands: bool = True):
-        fields, plant = self.plant_call(number, site, generation, lines, count)
+    def store_plant(self, number: int, site: int, generation: int, *lines: FuelLine,
+                    heat: int = 0, count=None, stands: bool = True):
+        fields, plant = self.plant_call(number, Plant(site, generation, lines, heat), count)
         if stands:
-            self.mark(('plant', number), self.ledger.enter_plant(number, plant))
+            refusal = self.ledger.enter_plant(number, plant)
+            self.damaged_heats |= {refusal} & {16, 17}
+            self.mark(('plant', number), refusal)
             self.ledger.plants[number] = plant
         else:
             self.mark(('plant', number), reference.OK)
@@ -348,6 +363,65 @@ def unread_figures(calls: Calls):
     for at, _ in product(range(4), UNREAD):
         calls.plant(0, 0, 1_000, *at * [LINE], MassLine(3, 909))
         calls.report()
+
+
+def heat_limits(calls: Calls):
+    """Round J of lines of one kind and of several, to the last numbers of the type, and beside a
+    carbon line at each place; lines beyond the count are neither fuel nor carbon."""
+    for number, side in enumerate(('baseline', 'project')):
+        calls.source(number, side, captive(0), NONE, whole(1_000_000_000))
+    calls.plant(0, 0, 1_000)
+    for row in ((BENCH_LINE,), 4 * (LARGEST_LINES[0],), (LINE, EnergyLine(0, 9, 9)), (),
+                (EnergyLine(50_000, 100_000, 1_000),), (EnergyLine(99_999, 1, 1_001), LINE)):
+        energy = Plant(0, 0, row).fuel_energy
+        for kilojoules in (0, 1, max(energy - 1, 0), energy, energy + 1, LAST_U32, 2**32,
+                           2**32 + energy, 2**63, 2**63 + energy, LAST_U64 - energy, LAST_U64):
+            calls.plant(0, 0, 100_000_000, *row, heat=kilojoules)
+            calls.report()
+    for at, count, carbon in product(range(4), range(1, 5), ONE_OF_EACH[1:]):
+        row = [carbon if place == at else milligrams(1_000_000) for place in range(4)]
+        for kilojoules in (0, 500_001, 1_000_000, 1_000_001, 2_000_001, LAST_U64):
+            calls.plant(0, 0, 1_000, *row, heat=kilojoules, count=count)
+            calls.report()
+
+
+def steps_of_heat(calls: Calls):
+    """What is left is round whole factors, of one plant, and of two beside one without heat."""
+    for number, side in enumerate(SIDES):
+        calls.source(number, side, captive(0), NONE, whole(1_000_000_000))
+    for content, quantity in product((7, 999, 1_001, 74_093, 200_000), (1_000, 999)):
+        energy = quantity * 149_999
+        for left, more in product((1_000, 2_000), (-1, 0, 1)):
+            kilojoules = energy - left * 1_000 // content - more
+            calls.plant(0, 0, 1_000, EnergyLine(quantity, 149_999, content), heat=kilojoules)
+            calls.report()
+    half_left = (EnergyLine(10**8, 5_000, 1), EnergyLine(10**8, 5_000, 2))
+    for heats in product((0, 1, 500_000_000), repeat=2):
+        for number, (kilojoules, lines) in enumerate(zip(heats, (half_left[:1], half_left))):
+            calls.plant(number, 0, 500, *lines, heat=kilojoules)
+        calls.plant(2, 0, 200, MassLine(1, 10_000))
+        calls.report()
+
+
+def named_with_heat(calls: Calls):
+    """By each side and supply, beside a grid below, between and above the site's factors."""
+    calls.plant(5, 2, 1_000, BENCH_LINE, heat=21_500_000)
+    for margin, side, supply in product((1, 1_593_150, 2_000_000, 3_186_301), SIDES,
+                                        (captive(2), either(2), CAPTIVE_DEFAULT)):
+        calls.grid(margin)
+        calls.source(0, side, supply, measured(500) if supply == either(2) else NONE,
+                     whole(1_000_003))
+        calls.report()
+
+
+def plant_precedence(calls: Calls):
+    """Each set of defects: the first number of the set answers."""
+    for defects, one in product(range(16), range(2)):
+        has = [defects >> bit & 1 for bit in range(4)]
+        row = [LINE, *has[2] * [MassLine(1, 1)], *has[1] * one * [EnergyLine(1, 0, 1)]]
+        number, site = (7 + has[0], 3) if one else (7, 3 + has[0])
+        calls.plant(number, site, 100_000_000 + has[1] * (1 - one), *row,
+                    heat=(5, LAST_U64)[one] if has[3] else 1)
 
 
 # Of 8 bits each, that do not sum to 100; 356 is 100 in 8 bits.
@@ -662,6 +736,31 @@ def damaged_plants(calls: Calls):
     calls.report()
 
 
+def damaged_heats(calls: Calls):
+    """Heat above J, and heat beside a carbon line, in a record that stands, at each place and
+    whoever names the site; what stands beyond the count is neither fuel nor carbon."""
+    for number, side in enumerate(SIDES):
+        calls.source(number, side, captive(number), NONE, whole(5_000_000))
+    for site in range(3):
+        calls.plant(site, site, 1_000, BENCH_LINE, heat=site)
+    rows = ((BENCH_LINE,), (LINE, BENCH_LINE), (LINE, MassLine(1, 1)), (VolumeLine(0, 0, 0),), (),
+            (EnergyLine(0, 1, 1), LINE, LINE), 4 * (LARGEST_LINES[0],))
+    for at, row in enumerate(rows):
+        energy = Plant(0, 0, row).fuel_energy
+        for kilojoules in (0, 1, energy, energy + 1, 2**32 + energy, LAST_U64):
+            calls.store_plant(3 + at % 5, at % 4, 70_000_000, *row, heat=kilojoules)
+            calls.store_plant(3 + at % 5, at % 4, 70_000_000, *row, heat=kilojoules, stands=False)
+        calls.store_plant(3 + at % 5, at % 4, 70_000_000, *row, heat=energy + 1)
+        calls.plant(3 + at % 5, at % 4, 70_000_000, *row, heat=LAST_U64)  # refused, mends nothing
+        calls.report()
+        calls.drop_plant(3 + at % 5)
+        calls.report()
+    for count in range(6):
+        calls.store_plant(7, 0, 1_000, LINE, LINE, MassLine(1, 1), LINE, heat=2, count=count)
+    calls.plant(7, 0, 1_000, LINE, LINE, heat=2)
+    calls.report()
+
+
 def damaged_sources(calls: Calls):
     """The same of sources, and of a loss that does not go with the supply."""
     for number, damage in enumerate((
@@ -711,13 +810,23 @@ def damaged_grids(calls: Calls):
     calls.report()
 
 
+def fits_call(line: str) -> bool:
+    """Whether each number of the line fits the type that a call has for it."""
+    small = [m.ratio <= LAST_U16 for m in meters_of(line.encode())]
+    parts = reference.PLANT_FORM.fullmatch(line.encode())
+    if parts:
+        plant = reference.read_plant(parts)
+        small += [int(parts[1]) <= LAST_U8, plant.site <= LAST_U8, plant.generation <= LAST_U32]
+        small += [figure <= LAST_U32 for fuel in plant.fuel_lines for figure in fuel]
+    return all(small)
+
+
 def hand_worked(calls: Calls, lists: dict):
-    """Lists of lines. A form with a ratio that 16 bits do not hold is no call."""
+    """Lists of lines. A form with a number that its type does not hold is no call."""
     for pairs in lists.values():
         calls.new()
         for line, answer in pairs:
-            if answer != 'refused 14' and all(
-                    m.ratio <= LAST_U16 for m in meters_of(line.encode())):
+            if answer != 'refused 14' and fits_call(line):
                 calls.line(line)
 
 
@@ -729,11 +838,17 @@ def ratios_listed(calls: Calls):
     hand_worked(calls, ratios.LISTS)
 
 
+def heat_listed(calls: Calls):
+    hand_worked(calls, heat.LISTS)
+
+
 BY_HAND = (listing, grid_and_plant_limits, fuel_limits, parts_of_milligrams, unread_figures,
-           margins_limits, means, marks_of_margins, source_limits, counts, registers,
-           ratios_of_meters, every_supply_and_loss, generation_limits, alone_at_zero, comparisons,
-           either_both_ways, largest_report, source_precedence, report_precedence, replacements,
-           drops, damaged_plants, damaged_sources, damaged_grids, sites_named, ratios_listed)
+           heat_limits, steps_of_heat, named_with_heat, margins_limits, means, marks_of_margins,
+           source_limits, counts, registers, ratios_of_meters, every_supply_and_loss,
+           generation_limits, alone_at_zero, comparisons, either_both_ways, largest_report,
+           plant_precedence, source_precedence, report_precedence, replacements, drops,
+           damaged_plants, damaged_heats, damaged_sources, damaged_grids, sites_named,
+           ratios_listed, heat_listed)
 
 
 # 2. Lists at random
@@ -862,14 +977,15 @@ class RandomCalls(Calls):
     def margins(self) -> list[int]:
         """Half of them round a captive factor, which either compares their mean with."""
         if self.chance(50):
-            near = self.pick(captive_factors(self.ledger)
-                             or [self.number(FACTOR_LIMIT, LAST_U32 - 2)])
+            # A damaged plant may have no fuel that its heat is taken off.
+            factors = [] if self.damaged else captive_factors(self.ledger)
+            near = self.pick(factors or [self.number(FACTOR_LIMIT, LAST_U32 - 2)])
             return [max(near + self.numbers.below(3) - 1, 0) for _ in range(2)]
         return [self.number(FACTOR_LIMIT, LAST_U32) for _ in range(2)]
 
-    def fuel(self, generation: int) -> FuelLine:
+    def fuel(self, generation: int, kinds: tuple = FUEL_KINDS) -> FuelLine:
         """Burnt for so many kWh, mostly at less than 10,000,000 mg/kWh."""
-        kind = self.pick(FUEL_KINDS)
+        kind = self.pick(kinds)
         limits = FUEL_LIMITS[kind]
         if self.chance(20):
             return kind(*(self.number(limit, LAST_U32) for limit in limits))
@@ -892,7 +1008,10 @@ class RandomCalls(Calls):
         self.plant_at(number, self.index(3), generation)
 
     def plant_at(self, number: int, site: int, generation: int):
-        if generation > 0 and self.chance(30):
+        if self.chance(40):
+            lines, kilojoules = self.fuels_with_heat(generation)
+            self.plant(number, site, generation, *lines, heat=kilojoules)
+        elif generation > 0 and self.chance(30):
             self.plant(number, site, generation, *self.tight_fuels(generation))
         else:
             count = self.pick((0, 1, 1, 2, 3, 4, 4))
@@ -900,6 +1019,31 @@ class RandomCalls(Calls):
                 count = self.pick((5, 6, LAST_U8))
             lines = [self.fuel(generation) for _ in range(4)]
             self.plant(number, site, generation, *lines, count=count)
+
+    def fuels_with_heat(self, generation: int) -> tuple[list[FuelLine], int]:
+        """Mostly of energy lines alone."""
+        if generation > 0 and self.chance(30):
+            return self.tight_heat(generation)
+        kinds = FUEL_KINDS if self.chance(20) else (EnergyLine,)
+        lines = [self.fuel(generation, kinds) for _ in range(self.pick((1, 1, 2, 3, 4, 0)))]
+        return lines, self.heat(Plant(0, generation, lines).fuel_energy)
+
+    def tight_heat(self, generation: int) -> tuple[list[FuelLine], int]:
+        """What is left is near a whole factor: so many kJ of C mg a MJ each."""
+        content = self.pick((1, 7, 500, 999, 1_000, 1_001, 1 + self.numbers.below(200_000)))
+        left = (1 + self.numbers.below(9)) * generation * 1_000 // content
+        line = EnergyLine(self.pick((1_000, 999)) * (1 + self.numbers.below(100)),
+                          1 + self.numbers.below(150_000), content)
+        energy = line.quantity * line.net_calorific_value
+        return [line], max(energy - left - self.numbers.below(3) + 1, 1)
+
+    def heat(self, energy: int) -> int:
+        """Of so many kJ of fuel; mostly not above it."""
+        if self.chance(12 + self.out_of_range):
+            return self.pick((energy + 1, energy + 1, 10**18 - 1, LAST_U64,
+                              2**32 + self.numbers.below(energy + 1)))
+        return self.pick((1, energy, max(energy - 1, 0), energy // 2, 0,
+                          self.numbers.below(energy + 1), self.numbers.below(energy + 1)))
 
     def loss(self, supply: Supply) -> Loss:
         if self.chance(3):
@@ -931,10 +1075,12 @@ class RandomCalls(Calls):
             self.store_grid(self.combined_margin(), self.pick(MARKS),
                             self.pick((0, 0, 0, 1, -1)), self.pick((0, 0, 0, 1, -1)))
         elif self.chance(50):
+            lines, kilojoules = [self.fuel(1_000) for _ in range(4)], self.pick((0, 0, 1, LAST_U64))
+            if self.chance(30):
+                lines, kilojoules = self.fuels_with_heat(1_000)
             self.store_plant(self.numbers.below(8), self.index(4),
-                             self.number(100_000_000, LAST_U32),
-                             *(self.fuel(1_000) for _ in range(4)), count=self.pick((0, 1, 4, 5)),
-                             stands=self.chance(70))
+                             self.number(100_000_000, LAST_U32), *lines, heat=kilojoules,
+                             count=self.pick((0, 1, 4, 5)), stands=self.chance(70))
         else:
             self.store_source(self.numbers.below(32), self.pick(SIDES), self.supply(),
                               self.pick((NONE, DEFAULT20, measured(0))),
@@ -986,10 +1132,12 @@ def check_met(by_hand: Calls, at_random: Calls):
            'every kind of fuel line decides a factor up and down':
                len(by_hand.lines) == DECIDING_LINES,
            'sites are refused that no source names, or names the other way':
-               by_hand.aside == REFUSED_ASIDE}
+               by_hand.aside == REFUSED_ASIDE,
+           'every case of heat is met': by_hand.heats == set(HEAT_CASES),
+           'every step of heat is shown by a factor': by_hand.steps == HEAT_STEPS}
     for name, calls in (('by hand', by_hand), ('at random', at_random)):
-        met[f'every refusal of 1 to 12 and 15 is met {name}'] = (
-            set(calls.refusals) == {*range(1, 13), 15})
+        met[f'every refusal of 1 to 12 and 15 to 17 is met {name}'] = (
+            set(calls.refusals) == {*range(1, 13), 15, 16, 17})
         met[f'a mean that is not whole is taken in each way {name}'] = (
             len({way for _, way in calls.means}) == 3)
         met[f'every kind of fuel line decides a factor {name}'] = (
@@ -999,6 +1147,9 @@ def check_met(by_hand: Calls, at_random: Calls):
         met[f'every case of ratios is met {name}'] = calls.ratios == set(RATIO_CASES)
         met[f'readings by a ratio are no whole Wh on each side and of each sign {name}'] = (
             len(calls.fractions) == FRACTIONS_BY_RATIO)
+        met[f'every kind of source names a site with heat {name}'] = (
+            len(calls.by_heat) == SOURCES_BY_HEAT)
+        met[f'heat above J and beside carbon is damage {name}'] = calls.damaged_heats == {16, 17}
         met[f'damage is met {name}'] = calls.damages > 0
         met[f'a third of the reports {name} is given'] = calls.given * 3 >= calls.reports
     missing = [what for what, holds in met.items() if not holds]

@@ -1,4 +1,4 @@
-"""A second implementation of document 01 with wishes 1 to 4 of document 02, to compare
+"""A second implementation of document 01 with wishes 1 to 5 of document 02, to compare
 the programs tally and panel with.
 
 Written from these papers alone, with an exact fraction wherever they have an
@@ -246,6 +246,19 @@ class Plant(NamedTuple):
     site: int
     generation: int  # kWh
     fuel_lines: list[FuelLine]
+    heat: int = 0  # H, "A plant may state heat H in kJ"
+
+    @property
+    def fuel_energy(self) -> int:
+        """J in kJ, "the plant's summed Q × V"; a line by carbon has no V."""
+        return sum(line.quantity * line.net_calorific_value
+                   for line in self.fuel_lines if isinstance(line, EnergyLine))
+
+    @property
+    def gives_heat(self) -> bool:
+        """Whether it is one of "such plants"."""
+        # "H zero or unstated means as before."
+        return self.heat > 0
 
 
 class Supply(NamedTuple):
@@ -295,6 +308,9 @@ class Ledger:
             return 2
         if any(fuel_refused(line) for line in plant.fuel_lines):
             return 2
+        refusal = heat_refused(plant)
+        if refusal is not OK:
+            return refusal
         self.plants[number] = plant
         return OK
 
@@ -328,6 +344,15 @@ def exact_combined_margin(entered: int | Margins) -> Fraction:
         return Fraction(entered)
     return Fraction(entered.operating * entered.operating_weight
                     + entered.build * entered.build_weight, 100)
+
+
+def heat_refused(plant: Plant) -> int | None:
+    # "Heat above 0 beside a carbon line is refused 16, then heat above J is refused 17,
+    # both after 2."
+    beside_carbon = any(not isinstance(line, EnergyLine) for line in plant.fuel_lines)
+    if plant.gives_heat and beside_carbon:
+        return 16
+    return 17 if plant.heat > plant.fuel_energy else OK
 
 
 def source_refused(number: int, source: Source) -> int | None:
@@ -443,11 +468,25 @@ def factor_over(milligrams: int, generation: int, up: bool) -> int:
     return rounded(Fraction(milligrams, generation), up)
 
 
+def without_heat(plant: Plant, milligrams: int, up: bool) -> int:
+    """What a plant's "fuel lines' rounded milligrams" become."""
+    # "For project and leakage nothing changes."
+    if up or not plant.gives_heat:
+        return milligrams
+    # "For baseline the plant's milligrams become (J - H) × A ÷ 1,000, where J is the plant's
+    # summed Q × V and A its fuel lines' rounded milligrams × 1,000 ÷ J, each rounded down"
+    J = plant.fuel_energy
+    A = rounded(Fraction(milligrams * 1_000, J), up)
+    return rounded(Fraction((J - plant.heat) * A, 1_000), up)
+
+
+def plant_milligrams(plant: Plant, up: bool) -> int:
+    return without_heat(plant, sum(fuel_milligrams(line, up) for line in plant.fuel_lines), up)
+
+
 def captive_factor(ledger: Ledger, site: int, up: bool) -> int:
     # "F is the sum of these rounded lines over the plants' summed generation in kWh"
-    milligrams = sum(fuel_milligrams(line, up)
-                     for plant in plants_at(ledger, site)
-                     for line in plant.fuel_lines)
+    milligrams = sum(plant_milligrams(plant, up) for plant in plants_at(ledger, site))
     return factor_over(milligrams, generation_at(ledger, site), up)
 
 
@@ -560,6 +599,15 @@ def side_report(ledger: Ledger, figures: dict, side: str) -> SideReport:
 # 7. Exact values, and how near the report is to them
 
 
+def exact_plant_milligrams(plant: Plant, up: bool) -> Fraction:
+    """Of a plant that gives heat it depends on the direction."""
+    milligrams = sum((exact_fuel_milligrams(line) for line in plant.fuel_lines), Fraction(0))
+    if up or not plant.gives_heat:
+        return milligrams
+    # "The exact value uses the unrounded quotient": nor is a line rounded
+    return (plant.fuel_energy - plant.heat) * milligrams / plant.fuel_energy
+
+
 def exact_factor(ledger: Ledger, source: Source, figure: Figure) -> Fraction:
     """F with unrounded quotients, of the option that the rounded factors chose."""
     if figure.option == 'combined':
@@ -567,9 +615,8 @@ def exact_factor(ledger: Ledger, source: Source, figure: Figure) -> Fraction:
         return ledger.grid.combined_margin
     if figure.option != 'captive':
         return Fraction(figure.factor)  # fixed, so exact as it is
-    milligrams = sum(exact_fuel_milligrams(line)
-                     for plant in plants_at(ledger, source.supply.site)
-                     for line in plant.fuel_lines)
+    milligrams = sum(exact_plant_milligrams(plant, rounds_up(source.side))
+                     for plant in plants_at(ledger, source.supply.site))
     return milligrams / generation_at(ledger, source.supply.site)
 
 
@@ -610,10 +657,14 @@ class Constants(NamedTuple):
 
     factor_multiple: int = 13
     energy_multiple: int = 11
+    heated_energy_multiple: int = 2  # beside K
+    heat_by_factor: int = 1  # how often K counts beside F, and beside the 2
+    heat_by_energy: int = 1
     gap_kilograms: int = 200
     side_tonnes: int = 1
     reduction_tonnes: int = 3
     allowance_kilograms: int = 200  # a standing source
+    heated_kilograms: int | None = None  # one that names a site with heat; None: its gap's limit
 
 
 DEMAND_3 = Constants()
@@ -623,11 +674,44 @@ class Broken(Exception):
     """An inequality of demand 3, or what a check asks for, does not hold."""
 
 
-def gap_limit(figure: Figure, constants: Constants = DEMAND_3) -> Fraction:
-    # "1 + (13 × (F + 2) + 11 × U ÷ 10) ÷ 1,000,000 grams"
-    milligrams = (constants.factor_multiple * (figure.factor + 2)
-                  + Fraction(constants.energy_multiple * figure.energy_with_losses, 10))
+def site_heat(ledger: Ledger, site: int) -> Fraction | None:
+    """K of a site; None where none of its plants gives heat."""
+    # "With K as the summed J of such plants at the site over 1,000 × its generation"
+    energies = [plant.fuel_energy for plant in plants_at(ledger, site) if plant.gives_heat]
+    return Fraction(sum(energies), 1_000 * generation_at(ledger, site)) if energies else None
+
+
+def source_heat(ledger: Ledger, source: Source) -> Fraction | None:
+    """K of "baseline sources that name the site", whichever option they take; None for the
+    others, which keep document 01's limit."""
+    if source.side != 'baseline' or source.supply.name not in SITE_SUPPLIES:
+        return None
+    return site_heat(ledger, source.supply.site)
+
+
+def gap_limit(figure: Figure, K: Fraction | None = None,
+              constants: Constants = DEMAND_3) -> Fraction:
+    F, U = figure.factor, figure.energy_with_losses
+    if K is None:
+        # "1 + (13 × (F + 2) + 11 × U ÷ 10) ÷ 1,000,000 grams"
+        milligrams = (constants.factor_multiple * (F + 2)
+                      + Fraction(constants.energy_multiple * U, 10))
+    else:
+        # "1 + (13 × (F + 2 + K) + (2 + K) × U) ÷ 1,000,000 grams"
+        milligrams = (constants.factor_multiple * (F + 2 + constants.heat_by_factor * K)
+                      + (constants.heated_energy_multiple + constants.heat_by_energy * K) * U)
     return 1 + milligrams / 1_000_000
+
+
+def allowance(figure: Figure, K: Fraction | None, constants: Constants = DEMAND_3) -> Fraction:
+    """What a standing source adds to that of its side and of the reduction, in tonnes."""
+    # "in place of document 01's limit and of demand 3's 200 kilograms, for the side and for
+    # the reduction": where it is smaller too
+    if K is None:
+        return Fraction(constants.allowance_kilograms, 1_000)
+    if constants.heated_kilograms is not None:
+        return Fraction(constants.heated_kilograms, 1_000)
+    return gap_limit(figure, K, constants) / 1_000_000
 
 
 class Inequality(NamedTuple):
@@ -642,23 +726,30 @@ class Inequality(NamedTuple):
         return 0 <= self.off < self.limit
 
 
+def gap_inequalities(ledger: Ledger, report: Report, number: int,
+                     constants: Constants) -> list[Inequality]:
+    figure, K = report.figures[number], source_heat(ledger, ledger.sources[number])
+    off, limit = gap(ledger, report, number), gap_limit(figure, K, constants)
+    if K is not None:  # "in place of document 01's limit and of demand 3's 200 kilograms"
+        return [Inequality(f'gap {number} by F, U and K, g', off, limit)]
+    weight = Fraction(constants.gap_kilograms * 1_000)
+    return [Inequality(f'gap {number} by F and U, g', off, limit),
+            Inequality(f'gap {number} by weight, g', off, weight)]
+
+
 def demand_3(ledger: Ledger, report: Report,
              constants: Constants = DEMAND_3) -> list[Inequality]:
     """Each inequality of demand 3 at a report given on what stands."""
-    allowance = Fraction(constants.allowance_kilograms, 1_000)  # tonnes a standing source
-    inequalities = []
-    for number, figure in report.figures.items():
-        off = gap(ledger, report, number)
-        limit = gap_limit(figure, constants)
-        inequalities.append(Inequality(f'gap {number} by F and U, g', off, limit))
-        weight = Fraction(constants.gap_kilograms * 1_000)
-        inequalities.append(Inequality(f'gap {number} by weight, g', off, weight))
+    allowances = {number: allowance(figure, source_heat(ledger, ledger.sources[number]), constants)
+                  for number, figure in report.figures.items()}
+    inequalities = [inequality for number in report.figures
+                    for inequality in gap_inequalities(ledger, report, number, constants)]
     for side in SIDES:
         off = excess(side, report.sides[side].tonnes, exact_side(ledger, report, side))
-        limit = constants.side_tonnes + allowance * len(numbers_of(ledger, side))
+        limit = constants.side_tonnes + sum(allowances[n] for n in numbers_of(ledger, side))
         inequalities.append(Inequality(f'{side}, t', off, limit))
     off = exact_reduction(ledger, report) - report.reduction
-    limit = constants.reduction_tonnes + allowance * len(ledger.sources)
+    limit = constants.reduction_tonnes + sum(allowances.values())
     return inequalities + [Inequality('reduction, t', off, limit)]
 
 
@@ -695,7 +786,8 @@ MARGINS_FORM = form(rb'\(grid margins (<number>) (<number>) (<number>) (<number>
                     rb' (thermal|hydro)\)')
 # "Any count of fuel lines or meters, none included, is a form; the entry judges it."
 # "The forms are (fuel Q V C), (mass Q W) and (volume Q density W)"
-PLANT_FORM = form(rb'\(plant (<number>) (<number>) (<number>)'
+# "A plant may state heat H in kJ, as (heat H) after G."
+PLANT_FORM = form(rb'\(plant (<number>) (<number>) (<number>)(?: \(heat (<number>)\))?'
                   rb'((?: \((?:fuel <number> <number> <number>|mass <number> <number>'
                   rb'|volume <number> <number> <number>)\))*)\)')
 # A ratio is "written before its sign".
@@ -741,9 +833,13 @@ def margins_call(ledger: Ledger, parts: re.Match):
     return ledger.enter_grid(Margins(*map(int, margins)), mark.decode())
 
 
+def read_plant(parts: re.Match) -> Plant:
+    lines = [read_fuel_line(*line) for line in FUEL_PARTS.findall(parts[5])]
+    return Plant(int(parts[2]), int(parts[3]), lines, int(parts[4] or b'0'))
+
+
 def plant_call(ledger: Ledger, parts: re.Match):
-    lines = [read_fuel_line(*line) for line in FUEL_PARTS.findall(parts[4])]
-    return ledger.enter_plant(int(parts[1]), Plant(int(parts[2]), int(parts[3]), lines))
+    return ledger.enter_plant(int(parts[1]), read_plant(parts))
 
 
 def source_call(ledger: Ledger, parts: re.Match):

@@ -43,6 +43,21 @@ NO_RATIO = '*ratio = 1;'
 HAS_RATIO = 'return !is_digit(t) || (read_number(t, ratio) && skip(t, " "));'
 READ_RATIO = 'if (!read_ratio(t, &m->ratio)) return false;'
 READ_SIGN = 'if (!m->minus && !skip(t, "+ ")) return false;'
+REFUSED_16 = 'if (p.heat > 0 && has_carbon_line(fuels, count)) return 16;'
+REFUSED_17 = 'if (p.heat > p.energy) return 17;'
+TOO_MANY = 'if (count > FUEL_LINES || p.generation > 100000000) return 2;'
+IS_CARBON = 'if (fuels[i].kind != ENERGY) return true;'
+SUM_ENERGY = 'p.energy += fuels[i].quantity * fuels[i].calorific;'
+STORE_PLANT = 'l->plants[number] = p;'
+NO_HEAT = 'if (p->heat == 0) return p->milligrams[0];'
+CONTENT = 'u64 content = p->milligrams[0] * 1000 / p->energy;'
+LEFT = 'return (p->energy - p->heat) * content / 1000;'
+ADD_DOWN = 'sites[p->site].milligrams[0] += baseline_milligrams(p);'
+ADD_UPWARD = 'sites[p->site].milligrams[1] += p->milligrams[1];'
+HAS_HEAT = 'return !skip(t, " (heat ") || (read_number(t, heat) && skip(t, ")"));'
+READ_HEAT = 'if (!read_heat(t, &p.heat)) return NO_FORM;'
+READ_FUEL = 'if (!read_fuel(t, &f)) return NO_FORM;'
+READ_GENERATION = '|| !read_next(t, &p.generation)) return NO_FORM;'
 
 
 def read_by(last: str, first: str) -> str:
@@ -57,6 +72,12 @@ def refused_by_any_site(condition: str) -> str:
     return (ADD_UP + ' for (int i = 0; i < SITES; i++) { u64 factor; int refused ='
             f' captive_factor(&sites[i], true, &factor); if ({condition})'
             ' { put_refused(refused); put(" source 0\\n"); return; } }')
+
+
+def over_site(what: str) -> str:
+    """A sum over the plants with heat at the site of the plant p."""
+    return (f' for (int k = 0; k < PLANTS; k++) {{ const struct plant *q = &l->plants[k];'
+            f' if (q->stands && q->site == p->site && q->heat > 0) {what}; }}')
 
 
 SLIPS = (
@@ -253,6 +274,175 @@ SLIPS = (
          ' && read_next(&ahead, &c)) { m->ratio = a; read_number(t, &a); skip(t, " "); }'),
     Slip('a ratio with a + of its own accepted', READ_RATIO,
          "if (t->end - t->at > 1 && t->at[0] == '+' && t->at[1] != ' ') t->at++; " + READ_RATIO),
+    # Heat: what is left
+    Slip('heat for project', ADD_UPWARD,
+         'sites[p->site].milligrams[1] += p->heat == 0 ? p->milligrams[1] : divided((p->energy -'
+         ' p->heat) * divided(p->milligrams[1] * 1000, p->energy, true), 1000, true);'),
+    Slip("leakage takes baseline's factor", ASK_SITE,
+         'captive_factor(&sites[s->site], s->side == PROJECT, factor)'),
+    Slip('no heat taken off', ADD_DOWN, 'sites[p->site].milligrams[0] += p->milligrams[0];'),
+    Slip('heat 0 allocated', NO_HEAT, 'if (p->energy == 0) return p->milligrams[0];'),
+    Slip('a heat of 1 passed over', NO_HEAT, 'if (p->heat <= 1) return p->milligrams[0];'),
+    Slip('the heat of a plant without generation passed over', NO_HEAT,
+         'if (p->heat == 0 || p->generation == 0) return p->milligrams[0];'),
+    Slip('lines rounded up for A', CONTENT,
+         'u64 content = p->milligrams[1] * 1000 / p->energy;'),
+    Slip('A rounded up', CONTENT,
+         'u64 content = divided(p->milligrams[0] * 1000, p->energy, true);'),
+    Slip('A to nearest', CONTENT,
+         'u64 content = (p->milligrams[0] * 1000 + p->energy / 2) / p->energy;'),
+    Slip('A not rounded', LEFT,
+         'return (u64)((unsigned __int128)(p->energy - p->heat) * p->milligrams[0] / p->energy);'),
+    Slip('A not multiplied by 1,000', CONTENT, 'u64 content = p->milligrams[0] / p->energy;'),
+    Slip('A multiplied by 1,000 after its quotient', CONTENT,
+         'u64 content = p->milligrams[0] / p->energy * 1000;'),
+    Slip('A by the heat', CONTENT, 'u64 content = p->milligrams[0] * 1000 / p->heat;'),
+    Slip('A by what is left of the fuel', CONTENT,
+         'u64 content = p->milligrams[0] * 1000 / (p->energy - p->heat + (p->energy == p->heat));'),
+    Slip('the product for A in 32 bits', CONTENT,
+         'u64 content = (uint32_t)(p->milligrams[0] * 1000) / p->energy;'),
+    Slip('the product for A with a sign', CONTENT,
+         'u64 content = (u64)((int64_t)(p->milligrams[0] * 1000) / (int64_t)p->energy);'),
+    Slip('what is left rounded up', LEFT,
+         'return divided((p->energy - p->heat) * content, 1000, true);'),
+    Slip('what is left to nearest', LEFT,
+         'return ((p->energy - p->heat) * content + 500) / 1000;'),
+    Slip('what is left not divided by 1,000', LEFT,
+         'return (p->energy - p->heat) * content;'),
+    Slip('what is left divided by 1,000 first', LEFT,
+         'return (p->energy - p->heat) / 1000 * content;'),
+    Slip('the product of what is left in 32 bits', LEFT,
+         'return (uint32_t)((p->energy - p->heat) * content) / 1000;'),
+    Slip('the product of what is left with a sign', LEFT,
+         'return (u64)((int64_t)((p->energy - p->heat) * content) / 1000);'),
+    Slip('the fuel that is left in 32 bits', LEFT,
+         'return (uint32_t)(p->energy - p->heat) * content / 1000;'),
+    Slip("the heat's milligrams taken off the lines'", LEFT,
+         'return p->milligrams[0] - p->heat * content / 1000;'),
+    Slip("the heat's milligrams in place of what is left", LEFT,
+         'return p->heat * content / 1000;'),
+    Slip('a boiler at 60 percent', LEFT,
+         'return p->heat / 6 * 10 > p->energy ? 0 :'
+         ' (p->energy - p->heat / 6 * 10) * content / 1000;'),
+    Slip('A over the site', ADD_DOWN,
+         'u64 mg = 0, kj = 0;' + over_site('mg += q->milligrams[0], kj += q->energy')
+         + ' sites[p->site].milligrams[0] += p->heat == 0 ? p->milligrams[0]'
+         ' : (p->energy - p->heat) * (mg * 1000 / kj) / 1000;'),
+    Slip('heat taken off after the sum over the site', ADD_DOWN,
+         'u64 mg = 0, kj = 0, heat = 0, first = PLANTS;'
+         + over_site('mg += q->milligrams[0], kj += q->energy, heat += q->heat,'
+                     ' first = first == PLANTS ? (u64)k : first')
+         + ' sites[p->site].milligrams[0] += p->heat == 0 ? p->milligrams[0]'
+         ' : (u64)i != first ? 0 : (kj - heat) * (mg * 1000 / kj) / 1000;'),
+    Slip("a site's first heat for all its plants", ADD_DOWN,
+         'u64 heat = 0;' + over_site('heat = heat == 0 ? q->heat : heat')
+         + ' struct plant with = *p; if (with.heat > 0 && heat <= with.energy) with.heat = heat;'
+         ' sites[p->site].milligrams[0] += baseline_milligrams(&with);'),
+    # Heat: refusals
+    Slip('17 before 16', REFUSED_16, REFUSED_17 + ' ' + REFUSED_16),
+    Slip('16 for heat 0', REFUSED_16, 'if (has_carbon_line(fuels, count)) return 16;'),
+    Slip('heat beside carbon accepted', REFUSED_16, ''),
+    Slip('16 by the first line alone', REFUSED_16,
+         'if (p.heat > 0 && has_carbon_line(fuels, count > 0)) return 16;'),
+    Slip('16 without the first line', REFUSED_16,
+         'if (p.heat > 0 && count > 0 && has_carbon_line(fuels + 1, count - 1)) return 16;'),
+    Slip('16 without the fourth line', REFUSED_16,
+         'if (p.heat > 0 && has_carbon_line(fuels, count < 3 ? count : 3)) return 16;'),
+    Slip('16 by mass alone', IS_CARBON, 'if (fuels[i].kind == MASS) return true;'),
+    Slip('16 by volume alone', IS_CARBON, 'if (fuels[i].kind == VOLUME) return true;'),
+    Slip('16 where all lines are carbon', IS_CARBON,
+         '{ if (fuels[i].kind == ENERGY) return false; if (i + 1 == count) return true; }'),
+    Slip('16 by a carbon line that is burnt', IS_CARBON,
+         'if (fuels[i].kind != ENERGY && fuels[i].quantity > 0) return true;'),
+    Slip('16 before 1', 'if (number >= PLANTS || p.site >= SITES) return 1;',
+         'if (count <= FUEL_LINES && p.heat > 0 && has_carbon_line(fuels, count)) return 16;'
+         ' if (number >= PLANTS || p.site >= SITES) return 1;'),
+    Slip('16 before 2', TOO_MANY,
+         'if (count <= FUEL_LINES && p.heat > 0 && has_carbon_line(fuels, count)) return 16; '
+         + TOO_MANY),
+    Slip('16 before the 2 of a later line', 'if (fuel_refused(&fuels[i])) return 2;',
+         'if (fuel_refused(&fuels[i])) return 2;'
+         ' if (p.heat > 0 && has_carbon_line(&fuels[i], 1)) return 16;'),
+    Slip('17 before 2', TOO_MANY,
+         'u64 fuel = 0; for (u64 i = 0; i < count && i < FUEL_LINES; i++)'
+         ' fuel += fuels[i].quantity * fuels[i].calorific;'
+         ' if (p.heat > fuel && !has_carbon_line(fuels, count < 4 ? count : 4)) return 17; '
+         + TOO_MANY),
+    Slip('heat at J refused', REFUSED_17, 'if (p.heat > 0 && p.heat >= p.energy) return 17;'),
+    Slip('heat at J + 1 accepted', REFUSED_17,
+         'if (p.heat > p.energy + (p.energy > 0)) return 17;'),
+    Slip('heat above J taken as J', REFUSED_17,
+         'if (p.heat > p.energy) p.heat = p.energy;'),
+    Slip('heat without fuel accepted', REFUSED_17,
+         'if (p.energy == 0) p.heat = 0; else if (p.heat > p.energy) return 17;'),
+    Slip('heat limited by the milligrams', REFUSED_17,
+         'if (p.heat > p.milligrams[0] && p.heat > p.energy) return 17;'),
+    Slip('16 in place of 17', REFUSED_17, 'if (p.heat > p.energy) return 16;'),
+    Slip('17 in place of 16', REFUSED_16,
+         'if (p.heat > 0 && has_carbon_line(fuels, count)) return 17;'),
+    Slip('2 in place of 17', REFUSED_17, 'if (p.heat > p.energy) return 2;'),
+    Slip('J of the last line', SUM_ENERGY, 'p.energy = fuels[i].quantity * fuels[i].calorific;'),
+    Slip('J of the first line', SUM_ENERGY,
+         'if (i == 0) p.energy = fuels[i].quantity * fuels[i].calorific;'),
+    Slip('J in 32 bits', SUM_ENERGY,
+         'p.energy = (uint32_t)(p.energy + fuels[i].quantity * fuels[i].calorific);'),
+    Slip('J without lines of no CO2', SUM_ENERGY,
+         'if (fuels[i].content > 0) p.energy += fuels[i].quantity * fuels[i].calorific;'),
+    Slip('a plant that is refused 16 stored', REFUSED_16,
+         'if (p.heat > 0 && has_carbon_line(fuels, count))'
+         ' { l->plants[number] = p, l->plants[number].heat = 0; return 16; }'),
+    Slip('a plant that is refused 17 stored', REFUSED_17,
+         'if (p.heat > p.energy)'
+         ' { l->plants[number] = p, l->plants[number].heat = p.energy; return 17; }'),
+    # Heat: what stands
+    Slip('heat forgotten where a plant is replaced', STORE_PLANT,
+         'if (l->plants[number].stands) p.heat = 0; ' + STORE_PLANT),
+    Slip('the older heat kept where none is stated', STORE_PLANT,
+         'if (p.heat == 0 && l->plants[number].heat <= p.energy'
+         ' && !has_carbon_line(fuels, count)) p.heat = l->plants[number].heat; ' + STORE_PLANT),
+    Slip('the older heat kept', STORE_PLANT,
+         'if (l->plants[number].heat > 0 && l->plants[number].heat <= p.energy)'
+         ' p.heat = l->plants[number].heat; ' + STORE_PLANT),
+    Slip('heat cut to 32 bits', READ_HEAT, READ_HEAT + ' p.heat = (uint32_t)p.heat;'),
+    Slip('heat cut to 16 bits', READ_HEAT, READ_HEAT + ' p.heat = (uint16_t)p.heat;'),
+    Slip('heat above 32 bits taken as the last of them', READ_HEAT,
+         READ_HEAT + ' if (p.heat > UINT32_MAX) p.heat = UINT32_MAX;'),
+    Slip('heat above 31 bits as a number with a sign', READ_HEAT,
+         READ_HEAT + ' if ((int32_t)p.heat < 0) p.heat = 0;'),
+    # Heat: forms
+    Slip('heat read and passed over', READ_HEAT, READ_HEAT + ' p.heat = 0;'),
+    Slip('no heat read', READ_HEAT, ''),
+    Slip('a heat asked for', HAS_HEAT,
+         'return skip(t, " (heat ") && read_number(t, heat) && skip(t, ")");'),
+    Slip('a heat of 0 no form', HAS_HEAT,
+         'return !skip(t, " (heat ") || (read_number(t, heat) && skip(t, ")") && *heat != 0);'),
+    Slip('a heat of 10 digits no form', HAS_HEAT,
+         'return !skip(t, " (heat ") || (read_number(t, heat) && skip(t, ")")'
+         ' && *heat < 1000000000);'),
+    Slip('a heat of more digits accepted', HAS_HEAT,
+         'if (!skip(t, " (heat ")) return true; const char *first = t->at;'
+         ' for (; is_digit(t); t->at++) *heat = *heat * 10 + (u64)(*t->at - \'0\');'
+         " return t->at > first && (*first != '0' || t->at == first + 1) && skip(t, \")\");"),
+    Slip('a second heat passed over', HAS_HEAT,
+         'u64 more; if (skip(t, " (heat ") && !(read_number(t, heat) && skip(t, ")")))'
+         ' return false;'
+         ' return !skip(t, " (heat ") || (read_number(t, &more) && skip(t, ")"));'),
+    Slip('a second figure of heat passed over', HAS_HEAT,
+         'u64 more; return !skip(t, " (heat ") || (read_number(t, heat)'
+         ' && (skip(t, ")") || (read_next(t, &more) && skip(t, ")"))));'),
+    Slip('a heat without its figure accepted', HAS_HEAT,
+         'if (skip(t, " (heat)")) return true; ' + HAS_HEAT),
+    Slip('heats accepted', HAS_HEAT,
+         'return !(skip(t, " (heats ") || skip(t, " (heat ")) || (read_number(t, heat)'
+         ' && skip(t, ")"));'),
+    Slip('Heat accepted', HAS_HEAT,
+         'return !(skip(t, " (Heat ") || skip(t, " (heat ")) || (read_number(t, heat)'
+         ' && skip(t, ")"));'),
+    Slip('heat after a fuel line accepted', READ_FUEL,
+         'if (skip(t, "(heat ")) { if (!read_number(t, &p.heat) || !skip(t, ")")) return NO_FORM;'
+         ' count--; continue; } ' + READ_FUEL),
+    Slip('heat before G accepted', READ_GENERATION,
+         '|| !read_heat(t, &p.heat) ' + READ_GENERATION),
     # Margins
     Slip('weights swapped',
          'g.operating.factor * g.operating.weight + g.build.factor * g.build.weight',

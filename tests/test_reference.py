@@ -1,5 +1,6 @@
 """Document 01's listing, its bench table and hand-worked cases on the reference, with
-those of margins, of fuel by carbon content, of sites and of ratios, which are document 02's.
+those of margins, of fuel by carbon content, of sites, of ratios and of heat, which are document
+02's.
 
 Prints each failure and, last, `N passed, M failed`; fails if M is not 0.
 """
@@ -11,6 +12,7 @@ from fractions import Fraction
 from itertools import product
 
 import fuels
+import heat
 import margins
 import ratios
 import reference
@@ -244,6 +246,7 @@ def hand_worked_lists(checks: Checks):
     hand_worked(checks, 'fuels', fuels.LISTS)
     hand_worked(checks, 'sites', sites.LISTS)
     hand_worked(checks, 'ratios', ratios.LISTS)
+    hand_worked(checks, 'heat', heat.LISTS)
 
 
 def meters(checks: Checks):
@@ -614,6 +617,86 @@ def exact_ratios(checks: Checks):
     checks.demand_3('readings that are each nearly 1 Wh off', ledger, given, True)
 
 
+def plants_with_heat(checks: Checks):
+    """Milligrams down and up, and exactly. 7 kJ and 3.004 mg: 3 down, 428 mg a MJ, of which 6 kJ
+    leave 2. Then what the limit of 32 bits would cut, all of J, and none."""
+    lines = [EnergyLine(1, 3, 1_000), EnergyLine(1, 4, 1)]
+    largest = 4 * [EnergyLine(10**8, 150_000, 200_000)]
+    rows = [
+        (lines, 0, 3, 4, '3.004', '3.004'), (lines, 1, 2, 4, Fraction(6 * 3_004, 7_000), '3.004'),
+        (lines, 6, 0, 4, Fraction(3_004, 7_000), '3.004'), (lines, 7, 0, 4, 0, '3.004'),
+        (largest, 1, 12 * 10**15 - 200, 12 * 10**15, 12 * 10**15 - 200, 12 * 10**15),
+        (largest, 6 * 10**13, 0, 12 * 10**15, 0, 12 * 10**15),
+        ([MassLine(1, 1), *lines], 0, 369, 371, *2 * [Fraction(1_109_012, 3_000)])]
+    for fuel, kilojoules, down, up, exact_down, exact_up in rows:
+        made = reference.Plant(0, 1_000, fuel, kilojoules)
+        checks.equal(f'heat {kilojoules} of {fuel}',
+                     [reference.plant_milligrams(made, way) for way in (False, True)], [down, up])
+        checks.equal(f'exactly, heat {kilojoules} of {fuel}',
+                     [reference.exact_plant_milligrams(made, way) for way in (False, True)],
+                     [Fraction(exact_down), Fraction(exact_up)])
+
+
+def heated_site() -> str:
+    """Two plants with heat at site 0, of 10,000,000 and 5,000,000 kJ, and one without; over 500,
+    300 and 200 kWh K is 15. At site 1 there is none. A baseline has 999,999,900 + 4,999,999 + 500
+    mg, which are 1,005,000.399 mg/kWh."""
+    lines = ['(grid 100 thermal)', '(plant 0 0 500 (heat 1) (fuel 1000 10000 100000))',
+             '(plant 1 0 300 (heat 1) (fuel 5000000 1 1000))', '(plant 2 0 200 (fuel 500 1 1000))',
+             '(plant 3 1 1000 (fuel 500 1 1000))']
+    lines += [grid_source(n, side, 1_150_000, supply, 'loss 0' if 'either' in supply else 'none')
+              for n, (side, supply) in enumerate((
+                  ('baseline', 'captive 0'), ('baseline', 'either 0'), ('baseline', 'captive 1'),
+                  ('baseline', 'captivedefault'), ('project', 'captive 0'),
+                  ('leakage', 'captive 0')))]
+    return '\n'.join([*lines, '(report)'])
+
+
+def limits_with_heat(checks: Checks):
+    """Whose limit has a K, and what each is. With K 15 the first source's is 1 + (13 × 1,005,017 +
+    17 × 1,150,000) ÷ 1,000,000 g, and the second's, of 100 mg/kWh, 1 + (13 × 117 + 17 ×
+    1,150,000) ÷ 1,000,000."""
+    (ledger, given), = reports_of(heated_site())
+    checks.equal('K of each site', [reference.site_heat(ledger, site) for site in range(3)],
+                 [Fraction(15_000_000, 1_000 * 1_000), None, None])
+    checks.equal('F of each source', [figure.factor for figure in given.figures.values()],
+                 [1_005_000, 100, 0, 400_000, 1_005_001, 1_005_001])
+    first, second = Fraction('33.615221'), Fraction('20.551521')
+    limits = {i.what: i.limit for i in reference.demand_3(ledger, given)}
+    checks.equal('limits with K', [limits.get(f'gap {n} by F, U and K, g') for n in range(6)],
+                 [first, second, None, None, None, None])
+    checks.equal('sources with a limit by weight',
+                 [n for n in range(6) if f'gap {n} by weight, g' in limits], [2, 3, 4, 5])
+    checks.equal('allowances with heat',
+                 [limits[f'{name}, t'] for name in (*reference.SIDES, 'reduction')],
+                 [Fraction('1.2'), Fraction('1.2'), Fraction('1.4') + (first + second) / 10**6,
+                  Fraction('3.8') + (first + second) / 10**6])
+    exact = Fraction('1.15') * Fraction('1005000.399')
+    checks.equal('exact figure with heat', reference.exact_figure(
+        ledger, ledger.sources[0], given.figures[0]), exact)
+    checks.equal('its gap', reference.gap(ledger, given, 0), exact - 1_155_750)
+    checks.demand_3('a site with heat', ledger, given, True)
+
+
+def heat_can_fail(checks: Checks):
+    """A baseline of 1.15 t: with 200 kilograms 0 t would be within its allowance, and a figure
+    28 g too low within its limit."""
+    (ledger, given), = reports_of('\n'.join([
+        '(plant 0 0 1000 (heat 1) (fuel 1000 10000 100000))',
+        grid_source(0, 'baseline', 1_150_000, 'captive 0', 'none'), '(report)']))
+    checks.equal('a baseline of 1.15 t', given.sides['baseline'], (1, 1_149_998, 1))
+    checks.equal('its limit', reference.gap_limit(given.figures[0], Fraction(10)),
+                 Fraction('27.800143'))
+    for name, grams, tonnes, holds in (
+            ('as reported', 1_149_998, 1, True), ('26 g lower', 1_149_973, 1, True),
+            ('28 g lower', 1_149_972, 1, False), ('on the unsafe side', 1_150_000, 1, False),
+            ('a tonne lower', 1_149_998, 0, False)):
+        side = given.sides['baseline']._replace(tonnes=tonnes)
+        altered = given._replace(sides={**given.sides, 'baseline': side},
+                                 figures={0: given.figures[0]._replace(grams=grams)})
+        checks.demand_3(f'a baseline with heat, {name}', ledger, altered, holds)
+
+
 def exact_energy_below_zero(checks: Checks):
     """A + meter at rest and a - meter that moved by less than a watt-hour."""
     (ledger, given), = reports_of('\n'.join([
@@ -660,8 +743,8 @@ def main() -> int:
                  drops_and_replacement, hand_worked_lists, meters, grid_defaults, default_losses,
                  captive_supplies, fuel_lines, carbon_formulas, rounded_lines, report_refusals,
                  largest_side, text, lines_answered, exact_values, exact_options, exact_margins,
-                 exact_either_of_margins, exact_fuels, exact_ratios, exact_energy_below_zero,
-                 demand_3_can_fail):
+                 exact_either_of_margins, exact_fuels, exact_ratios, plants_with_heat,
+                 limits_with_heat, heat_can_fail, exact_energy_below_zero, demand_3_can_fail):
         part(checks)
     print(f'{checks.passed} passed, {checks.failed} failed')
     return 1 if checks.failed else 0

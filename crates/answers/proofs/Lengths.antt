@@ -107,7 +107,7 @@ only-report : (f : Form) → callOf f ≡ call.report → f ≡ report
 unfolding callOf
 only-report (grid F kind) e = cc
 only-report (margins O B X Y kind) e = cc
-only-report (plant N S G lines) e = cc
+only-report (plant N p) e = cc
 only-report (source N side supply loss meters) e = cc
 only-report (dropSource N) e = cc
 only-report (dropPlant N) e = cc

@@ -12,25 +12,31 @@ use Rattle.text.specs.Word.{bytes}
 use Rattle.text.specs.Template.{pieceIn, numbersIn, templateIn}
 use Rattle.metering.specs.declared.Sign.the-variants.{Plus, Minus}
 use Rattle.metering.specs.declared.Interval.the-variants.{Counts}
+use Rattle.fuel.specs.Fuel.{noLine}
 use Rattle.fuel.specs.declared.FuelKind.the-variants.{Energy, Mass, Volume}
+use Rattle.fuel.specs.declared.FuelLine.{FuelLine}
 use Rattle.emissions.specs.declared.CombinedMargin.the-variants.{Mean}
 use Rattle.emissions.specs.declared.GridKind.the-variants.{Thermal, Hydro}
 use Rattle.emissions.specs.declared.Side.the-variants.{Project, Leakage, Baseline}
 use Rattle.emissions.specs.declared.Supply.the-variants.{Combined, Captive, CaptiveDefault}
 use Rattle.emissions.specs.declared.Loss.the-variants.{Nothing, Default20}
-use Rattle.ledger.specs.Standing.{enterGrid}
+use Rattle.ledger.specs.Standing.{enterGrid, enterPlant}
 use Rattle.forms.specs.Form.{MeterForm, whole, single, allText, Form, grid, margins, plant, source, dropSource, dropPlant, report}
-use Rattle.forms.specs.Reading.{oneOf, manyWithin, kinds, sides, supplies, losses, plainMeters, ratioMeters, meters, fuels, gridIn, marginsIn, plantIn, sourceIn, others, openingIn, isClosing, formIn, lineForm}
-use Rattle.forms.specs.Calls.{fourOf, callOf, fittedMeterOf}
+use Rattle.forms.specs.Reading.{oneOf, manyWithin, kinds, sides, supplies, losses, plainMeters, ratioMeters, meters, fuels, heats, gridIn, marginsIn, plantIn, sourceIn, others, openingIn, isClosing, formIn, lineForm}
+use Rattle.forms.specs.Calls.{fourOf, plantOf, callOf, fittedMeterOf, fittedPlant}
 
 -- A line, opened so that it computes.
 unfoldable pub read : String → Option Form
-unfolding lineForm formIn isClosing openingIn others sourceIn plantIn marginsIn gridIn fuels meters ratioMeters plainMeters losses supplies sides kinds manyWithin oneOf templateIn numbersIn pieceIn decimalAt registerAt isDecimal leadingDigits digitValue valueAfter
+unfolding lineForm formIn isClosing openingIn others sourceIn plantIn marginsIn gridIn heats fuels meters ratioMeters plainMeters losses supplies sides kinds manyWithin oneOf templateIn numbersIn pieceIn decimalAt registerAt isDecimal leadingDigits digitValue valueAfter
 read line = lineForm (bytes line)
+
+-- A plant with this heat and these fuel lines.
+abbrev pub plantWith : Option ℕ → List FuelLine → Form
+plantWith heat lines = plant 0 (record { site = 1; generation = 7000; heat = heat; lines = lines })
 
 -- The five lines of the listing.
 pub listing : (read "(grid 812400 thermal)" ≡ some (grid 812400 Thermal))
-    × (read "(plant 0 1 7000 (fuel 1000 43000 74100))" ≡ some (plant 0 1 7000 (record { kind = Energy 1000 43000 74100 } ∷ [])))
+    × (read "(plant 0 1 7000 (fuel 1000 43000 74100))" ≡ some (plantWith none (record { kind = Energy 1000 43000 74100 } ∷ [])))
     × (read "(source 0 project (combined) (default20) (whole + 0 1000001))" ≡ some (source 0 Project Combined Default20 (whole none Plus 0 1000001 ∷ [])))
     × (read "(source 1 baseline (captive 1) (none) (whole + 0 500003))" ≡ some (source 1 Baseline (Captive 1) Nothing (whole none Plus 0 500003 ∷ [])))
     × (read "(report)" ≡ some report)
@@ -47,7 +53,7 @@ margins-entered = (refl, refl)
 
 -- "The forms are (fuel Q V C), (mass Q W) and (volume Q density W)": one plant may have lines of all kinds, which stand in the order written.
 pub kinds-mixed : read "(plant 0 1 7000 (volume 1200 965 8613) (fuel 1000 43000 74100) (mass 900 8540))"
-    ≡ some (plant 0 1 7000 (record { kind = Volume 1200 965 8613 } ∷ record { kind = Energy 1000 43000 74100 } ∷ record { kind = Mass 900 8540 } ∷ []))
+    ≡ some (plantWith none (record { kind = Volume 1200 965 8613 } ∷ record { kind = Energy 1000 43000 74100 } ∷ record { kind = Mass 900 8540 } ∷ []))
 unfolding read
 kinds-mixed = refl
 
@@ -57,7 +63,7 @@ unfolding read
 drops = (refl, refl)
 
 -- "Any count of fuel lines or meters, none included, is a form".
-pub any-count : (read "(plant 0 1 7000)" ≡ some (plant 0 1 7000 []))
+pub any-count : (read "(plant 0 1 7000)" ≡ some (plantWith none []))
     × (read "(source 2 leakage (captivedefault) (none))" ≡ some (source 2 Leakage CaptiveDefault Nothing []))
     × (read "(source 3 project (combined) (none) (whole + 1 2) (whole - 3 4) (single + 3f800000 42f6e979) (single - 00000001 80000000) (whole + 0 0))"
     ≡ some (source 3 Project Combined Nothing (whole none Plus 1 2 ∷ whole none Minus 3 4 ∷ single none Plus 0x3f800000 0x42f6e979 ∷ single none Minus 1 0x80000000 ∷ whole none Plus 0 0 ∷ [])))
@@ -96,6 +102,42 @@ ratios-out-of-range = (refl, refl, refl, refl)
 -- A ratio that is larger than its field is the field's largest: 65,537 is not 1.
 pub ratio-in-its-field : fittedMeterOf (whole (some 65537) Plus 0 1) ≡ record { ratio = 65535; sign = Plus; interval = Counts 0 1 }
 ratio-in-its-field = refl
+
+-- "A plant may state heat H in kJ, as (heat H) after G": before the fuel lines, also where there are none, and up to the largest decimal.
+pub heats-written : (read "(plant 0 1 7000 (heat 21500000) (fuel 1000 43000 74100))"
+    ≡ some (plantWith (some 21500000) (record { kind = Energy 1000 43000 74100 } ∷ [])))
+    × (read "(plant 0 1 7000 (heat 1))" ≡ some (plantWith (some 1) []))
+    × (read "(plant 0 1 7000 (heat 999999999999999999) (mass 900 8540))"
+    ≡ some (plantWith (some 999999999999999999) (record { kind = Mass 900 8540 } ∷ [])))
+unfolding read
+heats-written = (refl, refl, refl)
+
+-- "H zero or unstated means as before": a heat written as 0 and one left out are two forms with one call.
+pub heat-of-0 : (read "(plant 0 1 7000 (heat 0))" ≡ some (plantWith (some 0) []))
+    × (read "(plant 0 1 7000)" ≡ some (plantWith none []))
+    × (callOf (plantWith (some 0) []) ≡ callOf (plantWith none []))
+unfolding read callOf fourOf
+heat-of-0 = (refl, refl, refl)
+
+-- The entry of a line with heat.
+pub heat-entered : callOf (plantWith (some 21500000) [])
+    ≡ enterPlant 0 (record { site = 1; generation = 7000; heat = 21500000; lines = replicate 4 noLine; count = 0 })
+unfolding callOf fourOf
+heat-entered = refl
+
+-- Heat keeps its number in its field, also above 32 bits.
+pub heat-in-its-field : fittedPlant (plantOf (record { site = 1; generation = 7000; heat = some 4294967296; lines = [] })) .heat ≡ 4294967296
+heat-in-its-field = refl
+
+-- No form: a heat after a fuel line, twice, before G, with a zero before its other digits, without its number, or with two.
+pub no-heats : (read "(plant 0 1 7000 (fuel 1 1 1) (heat 0))" ≡ none)
+    × (read "(plant 0 1 7000 (heat 0) (heat 0) (fuel 1 1 1))" ≡ none)
+    × (read "(plant 0 1 (heat 0) 7000 (fuel 1 1 1))" ≡ none)
+    × (read "(plant 0 1 7000 (heat 01) (fuel 1 1 1))" ≡ none)
+    × (read "(plant 0 1 7000 (heat) (fuel 1 1 1))" ≡ none)
+    × (read "(plant 0 1 7000 (heat 1 1) (fuel 1 1 1))" ≡ none)
+unfolding read
+no-heats = (refl, refl, refl, refl, refl, refl)
 
 -- No form: two spaces, also between the margins and their weights, a weight missing, a carbon line with a figure too many or too few, a zero
 -- before other digits, also of a ratio, a ratio after the sign or with one of its own, 19 digits, an upper-case register, a space at the end,

@@ -2,7 +2,7 @@
 -- the box's fields is answered as the call of the form, and leaves the same ledger. Assumes nothing.
 use Prim.Native.Nat.{ℕ, zero, suc, _+_, _≤_, _<_}
 use mathlib.Core.Path.{_≡_, refl, sym, ap, _∙_}
-use mathlib.Core.Bool.{Bool, true, false, cond, _&&_}
+use mathlib.Core.Bool.{Bool, true, false, not, cond, _&&_, _||_}
 use mathlib.Core.List.{List, [], _∷_, _++_, map}
 use mathlib.Core.Option.{Option}
 use native.Mathlib.Omega.{arith}
@@ -31,6 +31,7 @@ use Rattle.emissions.specs.declared.Supply.{Supply}
 use Rattle.emissions.specs.declared.Supply.the-variants.{Combined, GridDefault, Captive, CaptiveDefault, Either}
 use Rattle.emissions.specs.declared.Loss.{Loss}
 use Rattle.emissions.specs.declared.Loss.the-variants.{Nothing, Measured, Default20, Default3}
+use Rattle.records.specs.Heat.{hasHeat, fuelEnergy, allEnergy}
 use Rattle.records.specs.Judging.{sourceJudged, isThere, dropJudged, linesOf, allWithinLimits, plantJudged, supplyWithinLimits, lossWithinLimits, whereGiven}
 use Rattle.records.specs.Records.{noPlant, noSource, plantRecord, sourceRecord}
 use Rattle.ledger.specs.Standing.{answer}
@@ -40,8 +41,8 @@ use Rattle.records.specs.declared.Plant.{Plant}
 use Rattle.records.specs.declared.SourceEntry.{SourceEntry}
 use Rattle.ledger.specs.declared.Ledger.{Ledger}
 use Rattle.ledger.proofs.Entries.{plant-facts, source-facts, drop-facts}
-use Rattle.forms.specs.Form.{Form, grid, margins, plant, source, dropSource, dropPlant, report}
-use Rattle.forms.specs.Calls.{fourOf, callOf, atMost, byteField, halfField, fittedMargin, fittedGrid, fittedSupply, fittedLoss, fittedMeter, fittedFuelKind, fittedLine, fittedPlant, fittedSource, fitted}
+use Rattle.forms.specs.Form.{WrittenPlant, Form, grid, margins, plant, source, dropSource, dropPlant, report}
+use Rattle.forms.specs.Calls.{fourOf, plantOf, callOf, atMost, byteField, halfField, fittedMargin, fittedGrid, fittedSupply, fittedLoss, fittedMeter, fittedFuelKind, fittedLine, fittedPlant, fittedSource, fitted}
 
 -- ---- one number
 
@@ -186,40 +187,50 @@ lines-unchanged (suc k) m (l ∷ ls) h all =
     let p = and-both (withinLimits l) _ all in
     rw (line-unchanged l (p .0)) (ap (λ (t : List FuelLine). l ∷ t) (lines-unchanged k m ls (omega arith) (p .1)))
 
-module _ (n S G : ℕ) (ls : List FuelLine) where
-  -- The plant that a form enters.
-  abbrev written : Plant
-  written = record { site = S; generation = G; lines = fourOf noLine ls; count = length ls }
+-- The tests of a plant's heat: they come after those that let no number through which its field would change.
+abbrev judgedHeat : Plant → Outcome Plant
+judgedHeat p =
+    refuseUnless 16 (not (hasHeat (p .heat)) || allEnergy (linesOf p))
+    (refuseUnless 17 (leb (p .heat) (fuelEnergy (linesOf p)))
+    (given p))
 
-  counted-same : leb (length ls) 4 ≡ true → allWithinLimits (linesOf (fittedPlant written)) ≡ allWithinLimits (linesOf written)
+module _ (n : ℕ) (w : WrittenPlant) where
+  -- The plant that a form enters, and its fuel lines.
+  abbrev entered : Plant
+  entered = plantOf w
+
+  abbrev ls : List FuelLine
+  ls = w .lines
+
+  counted-same : leb (length ls) 4 ≡ true → allWithinLimits (linesOf (fittedPlant entered)) ≡ allWithinLimits (linesOf entered)
   unfolding linesOf
   counted-same e = rw (unchanged 255 4 (length ls) (omega arith) e) (lines-same (length ls) (fourOf noLine ls))
 
-  plant-unchanged : (leb n 7 && leb S 3) ≡ true → (leb (length ls) 4 && leb G 100000000 && allWithinLimits (linesOf written)) ≡ true
-      → fittedPlant written ≡ written
+  plant-unchanged : (leb n 7 && leb (w .site) 3) ≡ true
+      → (leb (length ls) 4 && leb (w .generation) 100000000 && allWithinLimits (linesOf entered)) ≡ true → fittedPlant entered ≡ entered
   unfolding linesOf fourOf
   plant-unchanged e h =
-      let p = and-both (leb (length ls) 4 && leb G 100000000) _ h in
+      let p = and-both (leb (length ls) 4 && leb (w .generation) 100000000) _ h in
       let q = and-both (leb (length ls) 4) _ (p .0) in
       rw (
-        unchanged 255 3 S (omega arith) (and-both (leb n 7) _ e .1),
-        unchanged 4294967295 100000000 G (omega arith) (q .1),
+        unchanged 255 3 (w .site) (omega arith) (and-both (leb n 7) _ e .1),
+        unchanged 4294967295 100000000 (w .generation) (omega arith) (q .1),
         unchanged 255 4 (length ls) (omega arith) (q .0),
         lines-unchanged 4 4 ls (leb-true (length ls) 4 (q .0)) (p .1),
       )
 
-  plant-same : plantJudged (byteField n) (fittedPlant written) ≡ plantJudged n written
+  plant-same : plantJudged (byteField n) (fittedPlant entered) ≡ plantJudged n entered
   unfolding plantJudged
   plant-same =
-      test-same 1 _ (leb n 7 && leb S 3) _ _
-      (both-same _ (leb n 7) _ (leb S 3) (same-limit 255 7 n (omega arith)) (λ h. same-limit 255 3 S (omega arith)))
+      test-same 1 _ (leb n 7 && leb (w .site) 3) _ _
+      (both-same _ (leb n 7) _ (leb (w .site) 3) (same-limit 255 7 n (omega arith)) (λ h. same-limit 255 3 (w .site) (omega arith)))
       (λ e.
-      test-same 2 _ (leb (length ls) 4 && leb G 100000000 && allWithinLimits (linesOf written)) _ (given written)
-      (both-same _ (leb (length ls) 4 && leb G 100000000) _ _
-      (both-same _ (leb (length ls) 4) _ (leb G 100000000)
-      (same-limit 255 4 (length ls) (omega arith)) (λ h. same-limit 4294967295 100000000 G (omega arith)))
+      test-same 2 _ (leb (length ls) 4 && leb (w .generation) 100000000 && allWithinLimits (linesOf entered)) _ (judgedHeat entered)
+      (both-same _ (leb (length ls) 4 && leb (w .generation) 100000000) _ _
+      (both-same _ (leb (length ls) 4) _ (leb (w .generation) 100000000)
+      (same-limit 255 4 (length ls) (omega arith)) (λ h. same-limit 4294967295 100000000 (w .generation) (omega arith)))
       (λ h. counted-same (and-both (leb (length ls) 4) _ h .0)))
-      (λ h. ap given (plant-unchanged e h)))
+      (λ h. ap judgedHeat (plant-unchanged e h)))
 
 -- ---- a source
 
@@ -317,7 +328,7 @@ pub fitted-replies : (l : Ledger) (f : Form) → reply l (fitted (callOf f)) ≡
 unfolding reply fitted callOf answer
 fitted-replies l (grid F kind) = ap acknowledged (grid-same _)
 fitted-replies l (margins O B X Y kind) = ap acknowledged (grid-same _)
-fitted-replies l (plant N S G lines) = ap acknowledged (plant-same N S G lines)
+fitted-replies l (plant N p) = ap acknowledged (plant-same N p)
 fitted-replies l (source N side supply loss meters) = ap acknowledged (source-same N _)
 fitted-replies l (dropSource N) = ap acknowledged (drop-same 31 (recorded l .source) N (omega arith))
 fitted-replies l (dropPlant N) = ap acknowledged (drop-same 7 (recorded l .plant) N (omega arith))
@@ -327,8 +338,8 @@ pub fitted-steps : (l : Ledger) (f : Form) → step l (fitted (callOf f)) ≡ st
 unfolding step fitted callOf
 fitted-steps l (grid F kind) = stored-same _ _ l (grid-same _) (λ a e. refl)
 fitted-steps l (margins O B X Y kind) = stored-same _ _ l (grid-same _) (λ a e. refl)
-fitted-steps l (plant N S G lines) =
-    stored-same _ (λ a. withPlant l N (plantRecord a)) l (plant-same N S G lines)
+fitted-steps l (plant N p) =
+    stored-same _ (λ a. withPlant l N (plantRecord a)) l (plant-same N p)
     (λ a e. rw (within 255 N (omega (arith, plant-facts N _ a e .1 .number))))
 fitted-steps l (source N side supply loss meters) =
     stored-same _ (λ a. withSource l N (sourceRecord a)) l (source-same N _)

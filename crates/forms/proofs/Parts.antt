@@ -28,10 +28,10 @@ use Rattle.emissions.specs.declared.Loss.{Loss}
 use Rattle.emissions.specs.declared.Loss.the-variants.{Nothing, Measured, Default20, Default3}
 use Rattle.forms.specs.Templates.{closing}
 use Rattle.rounding.specs.Lists.{All}
-use Rattle.forms.specs.Form.{MeterForm, whole, single, kindText, sideText, supplyText, lossText, meterText, fuelKindText, fuelText, allText, FuelKindWritable, FuelWritable, Decimal, SupplyWritable, LossWritable, MeterWritable}
-use Rattle.forms.specs.Reading.{oneOf, manyOf, kinds, sides, supplies, losses, plainMeters, ratioMeters, meters, fuels}
+use Rattle.forms.specs.Form.{MeterForm, whole, single, kindText, sideText, supplyText, lossText, meterText, fuelKindText, fuelText, heatText, optionalText, allText, FuelKindWritable, FuelWritable, Decimal, SupplyWritable, LossWritable, WhereThere, MeterWritable}
+use Rattle.forms.specs.Reading.{oneOf, optionalOf, manyOf, kinds, sides, supplies, losses, plainMeters, ratioMeters, meters, fuels, heats}
 use Rattle.forms.proofs.Rows.{no-row}
-use Rattle.forms.proofs.Tables.{Stands, either-read, else-read, template-later, one-append, one-stands, this-row, later-row, many-stand, many-read-back}
+use Rattle.forms.proofs.Tables.{Stands, either-read, else-read, template-later, one-append, one-stands, this-row, later-row, optional-stands, optional-reads-back, many-stand, many-read-back}
 
 -- Kinds and sides have no number.
 abbrev pub Always : {A : Type 0} → A → Type 0
@@ -78,6 +78,10 @@ unfolding fuels placesOf filled
 fuel-stands =
     one-stands fuelText FuelWritable fuels
     ((λ l h m i n k. (refl, (h, i, k))), ((λ m h n k. (refl, (h, k))), ((λ l h m i n k. (refl, (h, i, k))), tt)))
+
+heat-stands : (t : List ℕ) (r : Read ℕ) → oneOf heats t ≡ some r → Stands heatText Decimal t r
+unfolding heats placesOf filled
+heat-stands = one-stands heatText Decimal heats ((λ H h. (refl, h)), tt)
 
 -- ---- a part's text is read as the part
 
@@ -224,8 +228,41 @@ fuel-parted (Energy Q NCV C) more rest = refl
 fuel-parted (Mass Q W) more rest = refl
 fuel-parted (Volume Q density W) more rest = refl
 
--- No digit follows the last number of a plant.
-pub fuels-parted : (lines : List FuelLine) → leadingDigits 10 (allText fuelText lines ++ closing) ≡ []
+fuels-parted : (lines : List FuelLine) → leadingDigits 10 (allText fuelText lines ++ closing) ≡ []
 unfolding leadingDigits digitValue allText
 fuels-parted [] = refl
 fuels-parted (l ∷ lines) = fuel-parted (l .kind) (allText fuelText lines) closing
+
+-- ---- the heat of a plant, before its fuel lines
+
+pub optional-heat-stands : (t : List ℕ) → Stands (optionalText heatText) (WhereThere Decimal) t (optionalOf heats t)
+optional-heat-stands = optional-stands heatText Decimal heats heat-stands
+
+heat-reads-back : (H : ℕ) (rest : List ℕ) → Decimal H → oneOf heats (heatText H ++ rest) ≡ some (record { value = H; rest = rest })
+unfolding heats placesOf filled Parted leadingDigits digitValue
+heat-reads-back H rest h = this-row _ _ (H ∷ []) rest (h, tt) (refl, tt)
+
+-- No fuel line begins as a heat does.
+fuel-no-heat : (k : FuelKind) (more rest : List ℕ) → oneOf heats ((fuelKindText k ++ more) ++ rest) ≡ none
+unfolding oneOf heats templateIn numbersIn pieceIn filled
+fuel-no-heat (Energy Q NCV C) more rest = refl
+fuel-no-heat (Mass Q W) more rest = refl
+fuel-no-heat (Volume Q density W) more rest = refl
+
+fuels-no-heat : (lines : List FuelLine) → oneOf heats (allText fuelText lines ++ closing) ≡ none
+unfolding oneOf heats templateIn numbersIn pieceIn allText
+fuels-no-heat [] = refl
+fuels-no-heat (l ∷ lines) = fuel-no-heat (l .kind) (allText fuelText lines) closing
+
+pub optional-heat-reads-back : (heat : Option ℕ) (lines : List FuelLine) → WhereThere Decimal heat
+    → optionalOf heats (optionalText heatText heat ++ (allText fuelText lines ++ closing))
+    ≡ record { value = heat; rest = allText fuelText lines ++ closing }
+optional-heat-reads-back heat lines =
+    optional-reads-back heatText Decimal heats heat-reads-back (allText fuelText lines ++ closing) (fuels-no-heat lines) heat
+
+-- No digit follows the last number of a plant.
+pub plant-parted : (heat : Option ℕ) (lines : List FuelLine)
+    → leadingDigits 10 (optionalText heatText heat ++ (allText fuelText lines ++ closing)) ≡ []
+unfolding leadingDigits digitValue filled
+plant-parted none lines = fuels-parted lines
+plant-parted (some H) lines = refl

@@ -9,8 +9,8 @@ use Rattle.text.specs.Template.{filled, placesOf, bound, Writable, Read, onRead
 use Rattle.text.specs.declared.Numbers.{Numbers}
 use Rattle.text.proofs.Templates.{Parted, template-reads-back, template-stands}
 use Rattle.rounding.specs.Lists.{All}
-use Rattle.forms.specs.Form.{allText}
-use Rattle.forms.specs.Reading.{Row, orElse, oneOf, followed, manyWithin, manyOf}
+use Rattle.forms.specs.Form.{allText, optionalText, WhereThere}
+use Rattle.forms.specs.Reading.{Row, orElse, oneOf, orLeftOut, optionalOf, followed, manyWithin, manyOf}
 
 -- The text of what was read stands at the start of t, up to the rest, and can be written.
 pub record Stands {A : Type 0} (text : A → List ℕ) (Ok : A → Type 0) (t : List ℕ) (r : Read A) : Type 0 where
@@ -127,10 +127,18 @@ module _ {A : Type 0} (w : Row A) (rows : List (Row A)) where
   unfolding oneOf
   later-row t e f = rw e f
 
--- ---- a list of parts
+-- ---- a part that may be left out, and a list of parts
 
 module _ {A : Type 0} (text : A → List ℕ) (Ok : A → Type 0) (rows : List (Row A)) where
   module _ (stands : (t : List ℕ) (r : Read A) → oneOf rows t ≡ some r → Stands text Ok t r) where
+    pub optional-stands : (t : List ℕ) → Stands (optionalText text) (WhereThere Ok) t (optionalOf rows t)
+    optional-stands t = go (oneOf rows t) (stands t)
+      where
+        go : (m : Option (Read A)) → ((r : Read A) → m ≡ some r → Stands text Ok t r)
+            → Stands (optionalText text) (WhereThere Ok) t (orLeftOut t m)
+        go none s = record { stands = refl; writable = tt }
+        go (some r) s = let q = s r refl in record { stands = q .stands; writable = q .writable }
+
     many-within-stands : (most : ℕ) (t : List ℕ) → Stands (allText text) (All Ok) t (manyWithin rows most t)
     unfolding manyWithin allText
     many-within-stands zero t = record { stands = refl; writable = tt }
@@ -150,6 +158,10 @@ module _ {A : Type 0} (text : A → List ℕ) (Ok : A → Type 0) (rows : List (
 
   module _ (back : (a : A) (rest : List ℕ) → Ok a → oneOf rows (text a ++ rest) ≡ some (record { value = a; rest = rest }))
       (rest : List ℕ) (last : oneOf rows rest ≡ none) where
+    pub optional-reads-back : (a : Option A) → WhereThere Ok a → optionalOf rows (optionalText text a ++ rest) ≡ record { value = a; rest = rest }
+    optional-reads-back none h = rw last
+    optional-reads-back (some a) h = rw (back a rest h)
+
     -- A part has a byte: with no text it would be read where none is.
     part-above-zero : (a : A) → Ok a → 0 < length (text a)
     part-above-zero a h = go (text a) (back a rest h)

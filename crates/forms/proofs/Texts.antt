@@ -13,16 +13,15 @@ use Rattle.text.specs.Digits.{leadingDigits, digitValue}
 use Rattle.text.specs.Decimal.{isDecimal, decimalAt}
 use Rattle.text.specs.Template.{filled, placesOf, Read, mapRead, pieceIn, numbersIn, numbersOf, templateIn}
 use Rattle.text.proofs.Templates.{Parted, template-reads-back}
-use Rattle.fuel.specs.declared.FuelLine.{FuelLine}
 use Rattle.emissions.specs.declared.GridKind.{GridKind}
 use Rattle.emissions.specs.declared.Side.{Side}
 use Rattle.emissions.specs.declared.Supply.{Supply}
 use Rattle.emissions.specs.declared.Loss.{Loss}
 use Rattle.forms.specs.Templates.{gridOpening, marginsOpening, weightsPart, plantOpening, sourceOpening, closing}
-use Rattle.forms.specs.Form.{MeterForm, Form, grid, margins, plant, source, dropSource, dropPlant, report, kindText, sideText, supplyText, lossText, allText, meterText, fuelText, openText, formText, Decimal, Writable, lineLimit, LineStands}
-use Rattle.forms.specs.Reading.{oneOf, kinds, sides, supplies, losses, meters, fuels, manyOf, gridIn, marginsIn, withLines, plantIn, withMeters, sourceIn, others, openingIn, isClosing, formIn, lineForm}
+use Rattle.forms.specs.Form.{MeterForm, WrittenPlant, Form, grid, margins, plant, source, dropSource, dropPlant, report, kindText, sideText, supplyText, lossText, optionalText, allText, meterText, heatText, fuelText, openText, formText, Decimal, Writable, lineLimit, LineStands}
+use Rattle.forms.specs.Reading.{oneOf, kinds, sides, supplies, losses, meters, heats, optionalOf, manyOf, gridIn, marginsIn, withHeat, plantIn, withMeters, sourceIn, others, openingIn, isClosing, formIn, lineForm}
 use Rattle.forms.proofs.Tables.{Stands, either-read, then-read, else-read, on-read, on-map, on-template, one-stands, this-row, later-row}
-use Rattle.forms.proofs.Parts.{kind-stands, side-stands, supply-stands, loss-stands, meters-stand, fuels-stand, kind-reads-back, side-reads-back, supply-reads-back, loss-reads-back, meters-read-back, fuels-read-back, fuels-parted}
+use Rattle.forms.proofs.Parts.{kind-stands, side-stands, supply-stands, loss-stands, meters-stand, fuels-stand, kind-reads-back, side-reads-back, supply-reads-back, loss-reads-back, meters-read-back, fuels-read-back, optional-heat-stands, optional-heat-reads-back, plant-parted}
 
 -- ---- what is read is a form's text
 
@@ -52,11 +51,12 @@ module _ (t : List ℕ) (r : Read Form) where
   plant-stands : plantIn t ≡ some r → Opens t r
   unfolding plantIn openText placesOf
   plant-stands e =
-      on-read (templateIn plantOpening t) (λ n t1. some (withLines n (manyOf fuels t1))) r e λ n e1 e2.
-      let l = fuels-stand (n .rest) in
+      on-read (templateIn plantOpening t) (λ n t1. some (withHeat n (optionalOf heats t1))) r e λ n e1 e2.
+      let q = optional-heat-stands (n .rest) in
+      let l = fuels-stand (optionalOf heats (n .rest) .rest) in
       subst (Opens t) (Option·some-inj .0 e2)
-      (on-template (λ m. Opens t (withLines m (manyOf fuels (n .rest)))) plantOpening t n e1 λ N h S i G j text.
-      record { stands = rw (append-assoc, ← (l .stands)) text; writable = (h, i, j, l .writable) })
+      (on-template (λ m. Opens t (withHeat m (optionalOf heats (n .rest)))) plantOpening t n e1 λ N h S i G j text.
+      record { stands = simp (append-assoc, ← (l .stands), ← (q .stands)) text; writable = (h, i, j, q .writable, l .writable) })
 
   source-stands : sourceIn t ≡ some r → Opens t r
   unfolding sourceIn openText placesOf
@@ -143,11 +143,16 @@ margins-reads-back O B X Y kind h =
       kind-reads-back closing kind,
     ))
 
-plant-reads-back : (N S G : ℕ) (lines : List FuelLine) → Writable (plant N S G lines)
-    → plantIn (formText (plant N S G lines)) ≡ Opened (plant N S G lines)
+plant-reads-back : (N : ℕ) (p : WrittenPlant) → Writable (plant N p) → plantIn (formText (plant N p)) ≡ Opened (plant N p)
 unfolding plantIn openText
-plant-reads-back N S G lines h =
-    rw (append-assoc, plant-opens N (h .0) (allText fuelText lines ++ closing) S G (h .1) (h .2) (fuels-parted lines), fuels-read-back lines (h .3))
+plant-reads-back N p h =
+    let rest = optionalText heatText (p .heat) ++ (allText fuelText (p .lines) ++ closing) in
+    simp append-assoc
+    (rw (
+      plant-opens N (h .0) rest (p .site) (p .generation) (h .1) (h .2) (plant-parted (p .heat) (p .lines)),
+      optional-heat-reads-back (p .heat) (p .lines) (h .3),
+      fuels-read-back (p .lines) (h .4),
+    ))
 
 source-reads-back : (N : ℕ) (side : Side) (supply : Supply) (loss : Loss) (meters : List MeterForm) → Writable (source N side supply loss meters)
     → sourceIn (formText (source N side supply loss meters)) ≡ Opened (source N side supply loss meters)
@@ -169,7 +174,7 @@ opening-reads-back : (f : Form) → Writable f → openingIn (formText f) ≡ Op
 unfolding openingIn gridIn marginsIn plantIn sourceIn others openText templateIn numbersIn pieceIn decimalAt isDecimal placesOf filled Parted leadingDigits digitValue
 opening-reads-back (grid F kind) h = then-read _ (grid-reads-back F kind h)
 opening-reads-back (margins O B X Y kind) h = else-read refl (then-read _ (margins-reads-back O B X Y kind h))
-opening-reads-back (plant N S G lines) h = else-read refl (else-read refl (then-read _ (plant-reads-back N S G lines h)))
+opening-reads-back (plant N p) h = else-read refl (else-read refl (then-read _ (plant-reads-back N p h)))
 opening-reads-back (source N side supply loss meters) h =
     else-read refl (else-read refl (else-read refl (then-read _ (source-reads-back N side supply loss meters h))))
 opening-reads-back (dropSource N) h =

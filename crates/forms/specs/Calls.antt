@@ -29,7 +29,7 @@ use Rattle.ledger.specs.Standing.{Call, enterGrid, enterPlant, enterSource}
 use Rattle.ledger.specs.Standing as call
 use Rattle.records.specs.declared.Plant.{Plant}
 use Rattle.records.specs.declared.SourceEntry.{SourceEntry}
-use Rattle.forms.specs.Form.{MeterForm, whole, single, Form, grid, margins, plant, source, dropSource, dropPlant, report}
+use Rattle.forms.specs.Form.{MeterForm, whole, single, WrittenPlant, Form, grid, margins, plant, source, dropSource, dropPlant, report}
 use Rattle.forms.specs.Reading.{lineForm}
 use Rattle.forms.specs.declared.Kind.{Kind}
 use Rattle.forms.specs.declared.Kind.the-variants.{NoForm, GridForm, PlantForm, SourceForm, ReportForm}
@@ -50,11 +50,26 @@ meterOf (single ratio sign first last) =
 unfoldable pub fourOf : {A : Type 0} → A → List A → List A
 fourOf empty parts = take 4 (parts ++ replicate 4 empty)
 
+-- "H zero or unstated means as before" (document 02, wish 5).
+abbrev pub heatOf : Option ℕ → ℕ
+heatOf none = 0
+heatOf (some H) = H
+
+abbrev pub plantOf : WrittenPlant → Plant
+plantOf p =
+    record {
+      site = p .site;
+      generation = p .generation;
+      heat = heatOf (p .heat);
+      lines = fourOf noLine (p .lines);
+      count = length (p .lines);
+    }
+
 unfoldable pub callOf : Form → Call
 callOf (grid F kind) = enterGrid (record { margin = Stated F; kind = kind })
 callOf (margins O B X Y kind) =
     enterGrid (record { margin = Mean (record { operating = O; build = B; weights = record { operating = X; build = Y } }); kind = kind })
-callOf (plant N S G lines) = enterPlant N (record { site = S; generation = G; lines = fourOf noLine lines; count = length lines })
+callOf (plant N p) = enterPlant N (plantOf p)
 callOf (source N side supply loss meters) =
     enterSource N (record { side = side; supply = supply; loss = loss; meters = fourOf noMeter (map meterOf meters); count = length meters })
 callOf (dropSource N) = call.dropSource N
@@ -115,9 +130,16 @@ fittedFuelKind (Volume Q density W) = Volume (wordField Q) (wordField density) (
 abbrev pub fittedLine : FuelLine → FuelLine
 fittedLine l = record { kind = fittedFuelKind (l .kind) }
 
+-- Heat has a field that holds every decimal.
 abbrev pub fittedPlant : Plant → Plant
 fittedPlant p =
-    record { site = byteField (p .site); generation = wordField (p .generation); lines = map fittedLine (p .lines); count = byteField (p .count) }
+    record {
+      site = byteField (p .site);
+      generation = wordField (p .generation);
+      heat = p .heat;
+      lines = map fittedLine (p .lines);
+      count = byteField (p .count);
+    }
 
 abbrev pub fittedMeter : Meter → Meter
 fittedMeter m = record { ratio = halfField (m .ratio); sign = m .sign; interval = m .interval }
@@ -155,7 +177,7 @@ abbrev pub emptyGrid : GridEntry
 emptyGrid = record { margin = Stated 0; kind = Thermal }
 
 abbrev pub emptyPlant : Plant
-emptyPlant = record { site = 0; generation = 0; lines = replicate 4 noLine; count = 0 }
+emptyPlant = record { site = 0; generation = 0; heat = 0; lines = replicate 4 noLine; count = 0 }
 
 abbrev pub emptySource : SourceEntry
 emptySource = record { side = Project; supply = Combined; loss = Nothing; meters = replicate 4 noMeter; count = 0 }

@@ -1,4 +1,4 @@
--- The forms of a line, as written, and their text (document 01, "The text the program tally reads": "Forms"; document 02, wishes 1, 2 and 4).
+-- The forms of a line, as written, and their text (document 01, "The text the program tally reads": "Forms"; document 02, wishes 1, 2, 4 and 5).
 use Prim.Native.Nat.{ℕ, _^_, _<_, _≤_}
 use mathlib.Core.Path.{_≡_}
 use mathlib.Core.List.{List, [], _∷_, _++_}
@@ -19,7 +19,7 @@ use Rattle.emissions.specs.declared.Supply.{Supply}
 use Rattle.emissions.specs.declared.Supply.the-variants.{Combined, GridDefault, Captive, CaptiveDefault, Either}
 use Rattle.emissions.specs.declared.Loss.{Loss}
 use Rattle.emissions.specs.declared.Loss.the-variants.{Nothing, Measured, Default20, Default3}
-use Rattle.forms.specs.Templates.{gridOpening, marginsOpening, weightsPart, plantOpening, sourceOpening, dropSourceOpening, dropPlantOpening, reportOpening, closing, thermalWord, hydroWord, projectWord, leakageWord, baselineWord, combinedPart, gridDefaultPart, captivePart, captiveDefaultPart, eitherPart, lossPart, default20Part, default3Part, nonePart, wholePlusPart, wholeMinusPart, singlePlusPart, singleMinusPart, ratioWholePlusPart, ratioWholeMinusPart, ratioSinglePlusPart, ratioSingleMinusPart, fuelPart, massPart, volumePart}
+use Rattle.forms.specs.Templates.{gridOpening, marginsOpening, weightsPart, plantOpening, sourceOpening, dropSourceOpening, dropPlantOpening, reportOpening, closing, thermalWord, hydroWord, projectWord, leakageWord, baselineWord, combinedPart, gridDefaultPart, captivePart, captiveDefaultPart, eitherPart, lossPart, default20Part, default3Part, nonePart, wholePlusPart, wholeMinusPart, singlePlusPart, singleMinusPart, ratioWholePlusPart, ratioWholeMinusPart, ratioSinglePlusPart, ratioSingleMinusPart, fuelPart, massPart, volumePart, heatPart}
 
 -- "meters (whole sign first last), (single sign first last)"; a register is its 32 bits. "A meter gains a ratio .., written before its sign;
 -- left out, it is 1": a ratio that is left out is none, so that a form and its text are one to one.
@@ -27,12 +27,20 @@ pub data MeterForm : Type 0 where
   whole : Option ℕ → Sign → ℕ → ℕ → MeterForm
   single : Option ℕ → Sign → ℕ → ℕ → MeterForm
 
+-- A plant but for its number: its site S, its generation G, its heat, its fuel lines. "A plant may state heat H in kJ, as (heat H) after G": a heat
+-- that is left out is none.
+pub record WrittenPlant : Type 0 where
+  pub site : ℕ
+  pub generation : ℕ
+  pub heat : Option ℕ
+  pub lines : List FuelLine
+
 -- "(grid F thermal|hydro), (plant N S G (fuel Q V C)..) .., (source N side (supply) (loss) meters), (drop source N), (drop plant N), (report)"; and
 -- "(grid margins O B X Y thermal|hydro): the two margins, then their weights".
 pub data Form : Type 0 where
   grid : ℕ → GridKind → Form
   margins : ℕ → ℕ → ℕ → ℕ → GridKind → Form
-  plant : ℕ → ℕ → ℕ → List FuelLine → Form
+  plant : ℕ → WrittenPlant → Form
   source : ℕ → Side → Supply → Loss → List MeterForm → Form
   dropSource : ℕ → Form
   dropPlant : ℕ → Form
@@ -84,6 +92,14 @@ fuelKindText (Volume Q density W) = filled volumePart (Q ∷ density ∷ W ∷ [
 abbrev pub fuelText : FuelLine → List ℕ
 fuelText l = fuelKindText (l .kind)
 
+abbrev pub heatText : ℕ → List ℕ
+heatText H = filled heatPart (H ∷ [])
+
+-- A part that is left out has no text.
+abbrev pub optionalText : {A : Type 0} → (A → List ℕ) → Option A → List ℕ
+optionalText text none = []
+optionalText text (some a) = text a
+
 -- "Any count of fuel lines or meters, none included, is a form".
 unfoldable pub allText : {A : Type 0} → (A → List ℕ) → List A → List ℕ
 allText text [] = []
@@ -94,7 +110,8 @@ allText text (a ∷ rest) = text a ++ allText text rest
 unfoldable pub openText : Form → List ℕ
 openText (grid F kind) = filled gridOpening (F ∷ []) ++ kindText kind
 openText (margins O B X Y kind) = filled marginsOpening (O ∷ B ∷ []) ++ (filled weightsPart (X ∷ Y ∷ []) ++ kindText kind)
-openText (plant N S G lines) = filled plantOpening (N ∷ S ∷ G ∷ []) ++ allText fuelText lines
+openText (plant N p) =
+    filled plantOpening (N ∷ p .site ∷ p .generation ∷ []) ++ (optionalText heatText (p .heat) ++ allText fuelText (p .lines))
 openText (source N side supply loss meters) =
     filled sourceOpening (N ∷ []) ++ (sideText side ++ (supplyText supply ++ (lossText loss ++ allText meterText meters)))
 openText (dropSource N) = filled dropSourceOpening (N ∷ [])
@@ -130,18 +147,19 @@ LossWritable Default20 = Unit {0}
 LossWritable Default3 = Unit {0}
 LossWritable Nothing = Unit {0}
 
-abbrev pub RatioWritable : Option ℕ → Type 0
-RatioWritable none = Unit {0}
-RatioWritable (some ratio) = Decimal ratio
+-- A part that may be left out can be written where it is there.
+abbrev pub WhereThere : {A : Type 0} → (A → Type 0) → Option A → Type 0
+WhereThere Ok none = Unit {0}
+WhereThere Ok (some a) = Ok a
 
 abbrev pub MeterWritable : MeterForm → Type 0
-MeterWritable (whole ratio sign first last) = RatioWritable ratio × Decimal first × Decimal last
-MeterWritable (single ratio sign first last) = RatioWritable ratio × (first < 2 ^ 32) × (last < 2 ^ 32)
+MeterWritable (whole ratio sign first last) = WhereThere Decimal ratio × Decimal first × Decimal last
+MeterWritable (single ratio sign first last) = WhereThere Decimal ratio × (first < 2 ^ 32) × (last < 2 ^ 32)
 
 abbrev pub Writable : Form → Type 0
 Writable (grid F kind) = Decimal F
 Writable (margins O B X Y kind) = Decimal O × Decimal B × Decimal X × Decimal Y
-Writable (plant N S G lines) = Decimal N × Decimal S × Decimal G × All FuelWritable lines
+Writable (plant N p) = Decimal N × Decimal (p .site) × Decimal (p .generation) × WhereThere Decimal (p .heat) × All FuelWritable (p .lines)
 Writable (source N side supply loss meters) = Decimal N × SupplyWritable supply × LossWritable loss × All MeterWritable meters
 Writable (dropSource N) = Decimal N
 Writable (dropPlant N) = Decimal N

@@ -19,7 +19,7 @@ use Rattle.emissions.specs.declared.Supply.{Supply}
 use Rattle.emissions.specs.declared.Supply.the-variants.{Combined, GridDefault, Captive, CaptiveDefault, Either}
 use Rattle.emissions.specs.declared.Loss.{Loss}
 use Rattle.emissions.specs.declared.Loss.the-variants.{Nothing, Measured, Default20, Default3}
-use Rattle.forms.specs.Templates.{gridOpening, marginsOpening, weightsPart, plantOpening, sourceOpening, dropSourceOpening, dropPlantOpening, reportOpening, thermalWord, hydroWord, projectWord, leakageWord, baselineWord, combinedPart, gridDefaultPart, captivePart, captiveDefaultPart, eitherPart, lossPart, default20Part, default3Part, nonePart, wholePlusPart, wholeMinusPart, singlePlusPart, singleMinusPart, ratioWholePlusPart, ratioWholeMinusPart, ratioSinglePlusPart, ratioSingleMinusPart, fuelPart, massPart, volumePart}
+use Rattle.forms.specs.Templates.{gridOpening, marginsOpening, weightsPart, plantOpening, sourceOpening, dropSourceOpening, dropPlantOpening, reportOpening, thermalWord, hydroWord, projectWord, leakageWord, baselineWord, combinedPart, gridDefaultPart, captivePart, captiveDefaultPart, eitherPart, lossPart, default20Part, default3Part, nonePart, wholePlusPart, wholeMinusPart, singlePlusPart, singleMinusPart, ratioWholePlusPart, ratioWholeMinusPart, ratioSinglePlusPart, ratioSingleMinusPart, fuelPart, massPart, volumePart, heatPart}
 use Rattle.forms.specs.Form.{lineLimit, MeterForm, whole, single, Form, grid, margins, plant, source, dropSource, dropPlant, report}
 
 -- ---- one of several templates, and any count of parts
@@ -40,6 +40,14 @@ orElse (some a) b = some a
 unfoldable pub oneOf : {A : Type 0} → List (Row A) → List ℕ → Option (Read A)
 oneOf [] t = none
 oneOf (r ∷ rows) t = orElse (mapRead (r .value) (templateIn (r .template) t)) (oneOf rows t)
+
+-- The one of the rows that the text begins with, or that none is there, and then nothing was read.
+abbrev pub orLeftOut : {A : Type 0} → List ℕ → Option (Read A) → Read (Option A)
+orLeftOut t none = record { value = none; rest = t }
+orLeftOut t (some r) = record { value = some (r .value); rest = r .rest }
+
+abbrev pub optionalOf : {A : Type 0} → List (Row A) → List ℕ → Read (Option A)
+optionalOf rows t = orLeftOut t (oneOf rows t)
 
 abbrev pub followed : {A : Type 0} → List ℕ → Option (Read A) → (List ℕ → Read (List A)) → Read (List A)
 followed t none more = record { value = []; rest = t }
@@ -105,6 +113,9 @@ fuels =
     ∷ row volumePart (λ n. record { kind = Volume (n .first) (n .second) (n .third) })
     ∷ []
 
+unfoldable pub heats : List (Row ℕ)
+heats = row heatPart (λ n. n .first) ∷ []
+
 -- ---- what a form opens with
 
 unfoldable pub gridIn : List ℕ → Option (Read Form)
@@ -116,11 +127,15 @@ marginsIn t =
     onRead (templateIn weightsPart t1) (λ w t2.
     mapRead (margins (m .first) (m .second) (w .first) (w .second)) (oneOf kinds t2)))
 
-abbrev pub withLines : Numbers → Read (List FuelLine) → Read Form
-withLines n r = record { value = plant (n .first) (n .second) (n .third) (r .value); rest = r .rest }
+abbrev pub withLines : Numbers → Option ℕ → Read (List FuelLine) → Read Form
+withLines n heat r =
+    record { value = plant (n .first) (record { site = n .second; generation = n .third; heat = heat; lines = r .value }); rest = r .rest }
+
+abbrev pub withHeat : Numbers → Read (Option ℕ) → Read Form
+withHeat n h = withLines n (h .value) (manyOf fuels (h .rest))
 
 unfoldable pub plantIn : List ℕ → Option (Read Form)
-plantIn t = onRead (templateIn plantOpening t) (λ n t1. some (withLines n (manyOf fuels t1)))
+plantIn t = onRead (templateIn plantOpening t) (λ n t1. some (withHeat n (optionalOf heats t1)))
 
 abbrev pub withMeters : ℕ → Side → Supply → Loss → Read (List MeterForm) → Read Form
 withMeters N side supply loss r = record { value = source N side supply loss (r .value); rest = r .rest }

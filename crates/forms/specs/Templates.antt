@@ -118,3 +118,7 @@ massPart = bytes " (mass # #)"
 
 abbrev pub volumePart : List ℕ
 volumePart = bytes " (volume # # #)"
+
+-- "A plant may state heat H in kJ, as (heat H) after G" (document 02, wish 5).
+abbrev pub heatPart : List ℕ
+heatPart = bytes " (heat #)"

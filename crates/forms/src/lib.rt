@@ -30,6 +30,7 @@ use crate::part::LossRead;
 use crate::part::SideRead;
 use crate::part::SupplyRead;
 use crate::part::byte_field;
+use crate::part::read_heat;
 use crate::part::read_kind;
 use crate::part::read_loss;
 use crate::part::read_side;
@@ -92,6 +93,7 @@ fn plain_line(kind: Kind, drops: bool, number: u8, next: usize) -> Line
         plant: Plant {
             site: 0,
             generation: 0,
+            heat: 0,
             lines: [fuel; Plant::LINE_PLACES],
             count: 0,
         },
@@ -179,7 +181,8 @@ fn read_plant(line: &[u8]) -> Line
     let Match::Match(numbers, at) = text::read_template(line, 0, b"(plant # # #") else {
         return no_form();
     };
-    let fuels = read_fuels(line, at);
+    let heat = read_heat(line, at);
+    let fuels = read_fuels(line, heat.next);
     let next = fuels.next;
     let lines = fuels.lines;
     let empty = plain_line(Kind::PlantForm, false, 0, next);
@@ -188,6 +191,7 @@ fn read_plant(line: &[u8]) -> Line
     let plant = Plant {
         site: byte_field(numbers.second),
         generation: word_field(numbers.third),
+        heat: heat.heat,
         lines,
         count: byte_field(fuels.count as u64),
     };

@@ -15,9 +15,12 @@ ghost use Rattle.forms.specs.Reading.{
   ratioMeters,
   meters,
   fuels,
+  optionalOf,
+  heats,
 };
 ghost use Rattle.forms.specs.Calls.{
   meterOf,
+  heatOf,
   atMost,
   byteField,
   halfField,
@@ -78,6 +81,12 @@ pub enum FuelRead {
     Found(FuelLine, usize),
 }
 
+// The heat of a plant in kJ, 0 where it is left out at a place, and the place after it.
+pub struct HeatRead {
+    pub heat: u64,
+    pub next: usize,
+}
+
 // The largest numbers of the fields that an entry has.
 const LARGEST_BYTE: u64 = u8::MAX as u64;
 
@@ -87,6 +96,9 @@ const LARGEST_WORD: u64 = u32::MAX as u64;
 
 // The ratio of a meter that is written without one (document 02, wish 4: "left out, it is 1").
 const RATIO_LEFT_OUT: u16 = 1;
+
+// The heat of a plant that is written without one (document 02, wish 5: "H zero or unstated means as before").
+const HEAT_LEFT_OUT: u64 = 0;
 
 // A number, or the largest of its field where it is larger. That is above every limit, and above what weights
 // sum to, so that an entry refuses it alike.
@@ -297,4 +309,21 @@ pub fn read_fuel(line: &[u8], at: usize) -> FuelRead
         return FuelRead::Found(FuelLine { kind }, next);
     }
     FuelRead::Missing
+}
+
+// Heat has a field that holds every decimal.
+pub fn read_heat(line: &[u8], at: usize) -> HeatRead
+    ensures heat { λ r. ⌜ r .heat ≡ heatOf (optionalOf heats (drop at (now (line .entry))) .value) ⌝ }
+    ensures rest { λ r. ⌜ drop (r .next) (now (line .entry)) ≡ optionalOf heats (drop at (now (line .entry))) .rest ⌝ }
+{
+    if let Match::Match(numbers, next) = text::read_template(line, at, b" (heat #)") {
+        return HeatRead {
+            heat: numbers.first,
+            next,
+        };
+    }
+    HeatRead {
+        heat: HEAT_LEFT_OUT,
+        next: at,
+    }
 }

@@ -1,7 +1,8 @@
 -- What callers know of a fuel line, whatever its kind: it rounds the exact quotient, and within the limits it is given and bounded. Assumes nothing.
 use Prim.Native.Nat.{ℕ, _*_, _<_, _≤_}
 use mathlib.Core.Path.{_≡_, refl, sym, ap, subst}
-use mathlib.Core.Bool.{Bool, true, false, _&&_}
+use mathlib.Core.Bool.{Bool, true, false, cond, _&&_}
+use mathlib.Core.Option.{none, some, Option·none-ne-some, Option·some-injective}
 use native.Mathlib.Omega.{arith}
 use native.Mathlib.Nat.{mul-le-mul}
 use lib.Dec.{leb}
@@ -14,7 +15,7 @@ use Rattle.rounding.proofs.Outcomes.{never-given, given-is, test-held}
 use Rattle.rounding.proofs.Divided.{rounds, divided-at-most}
 use Rattle.rounding.proofs.Ratio.{rounds-conservative}
 use Rattle.rounding.proofs.Tests.{and-both}
-use Rattle.fuel.specs.Fuel.{kindFits, withinLimits, kindMilligrams, exactMilligrams, roundedMilligrams, lineMilligrams}
+use Rattle.fuel.specs.Fuel.{kindFits, withinLimits, kindMilligrams, exactMilligrams, roundedMilligrams, lineMilligrams, kindEnergy, isEnergy, lineEnergy, statedEnergy}
 use Rattle.fuel.specs.declared.FuelKind.{FuelKind}
 use Rattle.fuel.specs.declared.FuelKind.the-variants.{Energy, Mass, Volume}
 use Rattle.fuel.specs.declared.FuelLine.{FuelLine}
@@ -125,3 +126,32 @@ pub line-bound : (dir : Direction) (l : FuelLine) → withinLimits l ≡ true �
 unfolding roundedMilligrams exactMilligrams withinLimits
 line-bound dir l e =
     divided-at-most dir (exactMilligrams l .plus) (exactMilligrams l .over) 3000000000000000 (line-over l) (kind-bound (l .kind) e)
+
+-- ---- the energy of a line
+
+kind-energy-bound : (k : FuelKind) → kindFits k ≡ true → kindEnergy k ≤ 15000000000000
+kind-energy-bound (Energy Q NCV C) e = energy-product Q NCV C e .0
+kind-energy-bound (Mass Q W) e = omega arith
+kind-energy-bound (Volume Q density W) e = omega arith
+
+-- A line within its limits has at most 15,000,000,000,000 kJ.
+pub line-energy-bound : (l : FuelLine) → withinLimits l ≡ true → lineEnergy l ≤ 15000000000000
+unfolding lineEnergy withinLimits
+line-energy-bound l e = kind-energy-bound (l .kind) e
+
+-- What is stated is the line's Q × V, of an energy line within its limits. Where nothing is stated, the line is no such line.
+pub energy-stated : (l : FuelLine) (J : ℕ) → statedEnergy l ≡ some J → ((isEnergy l && withinLimits l) ≡ true) × (J ≡ lineEnergy l)
+unfolding statedEnergy
+energy-stated l J e = go (isEnergy l && withinLimits l) e
+  where
+    go : (t : Bool) → cond t (some (lineEnergy l)) none ≡ some J → (t ≡ true) × (J ≡ lineEnergy l)
+    go true e = (refl, sym (Option·some-injective (lineEnergy l) J e))
+    go false e = absurd (Option·none-ne-some J e)
+
+pub energy-not-stated : (l : FuelLine) → statedEnergy l ≡ none → (isEnergy l && withinLimits l) ≡ false
+unfolding statedEnergy
+energy-not-stated l e = go (isEnergy l && withinLimits l) e
+  where
+    go : (t : Bool) → cond t (some (lineEnergy l)) none ≡ none → t ≡ false
+    go true e = absurd (Option·none-ne-some (lineEnergy l) (sym e))
+    go false e = refl

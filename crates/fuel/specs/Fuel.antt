@@ -1,6 +1,7 @@
--- A fuel line (document 01, "Losses and factors", captive, and "Plant entry", number 2; document 02, wish 2).
+-- A fuel line (document 01, "Losses and factors", captive, and "Plant entry", number 2; document 02, wishes 2 and 5).
 use Prim.Native.Nat.{ℕ, _*_}
-use mathlib.Core.Bool.{Bool, _&&_}
+use mathlib.Core.Bool.{Bool, true, false, cond, _&&_}
+use mathlib.Core.Option.{Option, none, some}
 use lib.Dec.{leb}
 use Rattle.rounding.specs.Outcome.{Outcome, refused, given, refuseUnless}
 use Rattle.rounding.specs.Divided.{divided}
@@ -11,6 +12,8 @@ use Rattle.fuel.specs.declared.FuelKind.the-variants.{Energy, Mass, Volu
 use Rattle.fuel.specs.declared.FuelLine.{FuelLine}
 use Rattle.fuel.specs.declared.Milligrams.{Milligrams}
 use Rattle.fuel.specs.declared.Milligrams.the-variants.{Refused, Rounded}
+use Rattle.fuel.specs.declared.LineEnergy.{LineEnergy}
+use Rattle.fuel.specs.declared.LineEnergy.the-variants.{Nothing, Stated}
 
 -- The empty line: what a place for a fuel line holds where there is none.
 abbrev pub noLine : FuelLine
@@ -49,3 +52,31 @@ lineMilligrams dir l = refuseUnless 2 (withinLimits l) (given (roundedMilligrams
 abbrev pub milligramsMeaning : Milligrams → Outcome ℕ
 milligramsMeaning Refused = refused 2
 milligramsMeaning (Rounded w) = given w
+
+-- ---- the energy of a line
+
+-- "A fuel line becomes one of three kinds: energy, as now; carbon by mass ..; carbon by volume".
+abbrev pub kindIsEnergy : FuelKind → Bool
+kindIsEnergy (Energy Q NCV C) = true
+kindIsEnergy (Mass Q W) = false
+kindIsEnergy (Volume Q density W) = false
+
+unfoldable pub isEnergy : FuelLine → Bool
+isEnergy l = kindIsEnergy (l .kind)
+
+-- Q × V, in kJ. A carbon line states no V.
+abbrev pub kindEnergy : FuelKind → ℕ
+kindEnergy (Energy Q NCV C) = Q * NCV
+kindEnergy (Mass Q W) = 0
+kindEnergy (Volume Q density W) = 0
+
+unfoldable pub lineEnergy : FuelLine → ℕ
+lineEnergy l = kindEnergy (l .kind)
+
+-- The energy that a line within its limits states; none of a carbon line, and of a line that number 2 refuses.
+unfoldable pub statedEnergy : FuelLine → Option ℕ
+statedEnergy l = cond (isEnergy l && withinLimits l) (some (lineEnergy l)) none
+
+abbrev pub energyMeaning : LineEnergy → Option ℕ
+energyMeaning Nothing = none
+energyMeaning (Stated J) = some J

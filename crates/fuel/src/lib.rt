@@ -1,5 +1,5 @@
-// Fuel lines of a captive plant: their limits and their milligrams of CO2 (document 01, "Losses and
-// factors", captive, and "Plant entry", number 2; document 02, wish 2).
+// Fuel lines of a captive plant: their limits, their milligrams of CO2 and their energy (document 01, "Losses and
+// factors", captive, and "Plant entry", number 2; document 02, wishes 2 and 5).
 ghost use mathlib.Core.Path.{_≡_};
 ghost use mathlib.Core.Bool.{true};
 ghost use Rattle.rounding.specs.Ratio.{_÷_};
@@ -12,6 +12,8 @@ ghost use Rattle.fuel.specs.Fuel.{
   exactMilligrams,
   lineMilligrams,
   milligramsMeaning,
+  statedEnergy,
+  energyMeaning,
 };
 use rounding::Direction;
 
@@ -58,6 +60,12 @@ pub enum Milligrams {
 pub struct BothWays {
     pub up: Milligrams,
     pub down: Milligrams,
+}
+
+// A line's energy, Q × V in kJ, or that it states none: by carbon, or out of its limits (number 2).
+pub enum LineEnergy {
+    Nothing,
+    Stated(u64),
 }
 
 impl FuelLine {
@@ -158,6 +166,35 @@ impl FuelLine {
             down: Milligrams::Refused,
         }
     }
+
+    // The energy that the line states. Out of the limits it is none, so that a caller can sum up lines.
+    pub fn energy(self) -> LineEnergy
+        ensures { λ r. ⌜ energyMeaning r ≡ statedEnergy self ⌝ }
+    {
+        let kind = self.kind;
+        match kind {
+            FuelKind::Energy {
+                quantity,
+                ncv,
+                factor,
+            } => stated_energy(quantity, ncv, factor),
+            FuelKind::Mass { quantity, carbon } => LineEnergy::Nothing,
+            FuelKind::Volume {
+                quantity,
+                density,
+                carbon,
+            } => LineEnergy::Nothing,
+        }
+    }
+}
+
+fn stated_energy(quantity: u32, ncv: u32, factor: u32) -> LineEnergy
+    ensures { λ r. ⌜ energyMeaning r ≡ statedEnergy (record { kind = Energy quantity ncv factor }) ⌝ }
+{
+    if energy_fits(quantity, ncv, factor) {
+        return LineEnergy::Stated(quantity as u64 * ncv as u64);
+    }
+    LineEnergy::Nothing
 }
 
 fn energy_fits(quantity: u32, ncv: u32, factor: u32) -> bool

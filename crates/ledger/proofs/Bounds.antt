@@ -35,6 +35,7 @@ use Rattle.emissions.specs.declared.Loss.{Loss}
 use Rattle.emissions.specs.declared.Loss.the-variants.{Nothing, Measured, Default20, Default3}
 use Rattle.emissions.specs.declared.Consumption.{Consumption}
 use Rattle.emissions.specs.Grid.{marginWithinLimits, weightsFull, enteredGrid, gridJudged}
+use Rattle.records.specs.Heat.{hasHeat, fuelEnergy, allEnergy}
 use Rattle.records.specs.Judging.{onRead, onEnergy, kept, sourceJudged, isThere, dropJudged, linesOf, allWithinLimits, plantJudged, supplyWithinLimits, lossWithinLimits, lossMatches}
 use Rattle.report.specs.Report.{ReportInput, Numbered, prependStanding, standing, sourcesOf, plantsOf, siteOf, sourceFigure, Figured, Figures, declined, figured, withFigure, prepended, figuresFrom, ofSide, SideReport, sideFits, sideReport, reduction, Report, reportFrom, allFit, Reply, ok, refusedWith, refusedAt, reported, damaged, replyFrom, reportOf, checkedReportOf, acknowledged, intact}
 use Rattle.ledger.specs.Standing.{Call, enterGrid, enterPlant, enterSource, dropPlant, dropSource, report, answer}
@@ -85,7 +86,9 @@ unfolding plantJudged
 plant-low n p =
     unless-low 1 (leb n 7 && leb (p .site) 3) _ (omega arith)
     (unless-low 2 (leb (p .count) 4 && leb (p .generation) 100000000 && allWithinLimits (linesOf p)) _ (omega arith)
-    (given-low p))
+    (unless-low 16 (not (hasHeat (p .heat)) || allEnergy (linesOf p)) _ (omega arith)
+    (unless-low 17 (leb (p .heat) (fuelEnergy (linesOf p))) _ (omega arith)
+    (given-low p))))
 
 drop-low : (last : ℕ) (stands : Bool) (n : ℕ) → Low (dropJudged last stands n)
 unfolding dropJudged

@@ -1,7 +1,7 @@
 -- What an accepted entry gives: the entry itself, within its limits, and a source's energy near the exact one. Assumes nothing.
 use Prim.Native.Nat.{ℕ, _≤_}
 use mathlib.Core.Path.{_≡_, refl, sym, _∙_}
-use mathlib.Core.Bool.{Bool, true, _&&_}
+use mathlib.Core.Bool.{Bool, true, not, _&&_, _||_}
 use mathlib.Core.Option.{some}
 use native.Mathlib.Omega.{arith}
 use lib.Dec.{leb}
@@ -20,6 +20,7 @@ use Rattle.rounding.specs.Outcome.{Outcome, given, refuseUnless}
 use Rattle.emissions.specs.Factor.{direction}
 use Rattle.rounding.proofs.Outcomes.{never-given, given-is, test-held}
 use Rattle.emissions.proofs.Losses.{LossSound}
+use Rattle.records.specs.Heat.{hasHeat, fuelEnergy, allEnergy}
 use Rattle.records.specs.Judging.{dropJudged, metersOf, onRead, onEnergy, kept, sourceJudged, linesOf, allWithinLimits, plantJudged, supplyWithinLimits, lossWithinLimits, lossMatches}
 use Rattle.report.specs.Intact.{isGiven, sourceIntact}
 use Rattle.report.proofs.Walks.{loss-sound}
@@ -35,22 +36,26 @@ pub record PlantFacts (n : ℕ) (p : Plant) : Type 0 where
   pub judged : plantJudged n p ≡ given p
   pub number : n ≤ 7
   pub lines : length (linesOf p) ≤ 4
+  pub heat : p .heat ≤ fuelEnergy (linesOf p)
   pub intact : isGiven (plantJudged 0 p) ≡ true
 
 pub plant-facts : (n : ℕ) (p a : Plant) → plantJudged n p ≡ given a → (a ≡ p) × PlantFacts n p
 unfolding plantJudged linesOf
 plant-facts n p a e =
     let q = test-held 1 (leb n 7 && leb (p .site) 3) _ e in
-    let r = test-held 2 (leb (p .count) 4 && leb (p .generation) 100000000 && allWithinLimits (linesOf p)) (given p) (q .1) in
+    let r = test-held 2 (leb (p .count) 4 && leb (p .generation) 100000000 && allWithinLimits (linesOf p)) _ (q .1) in
+    let h = test-held 16 (not (hasHeat (p .heat)) || allEnergy (linesOf p)) _ (r .1) in
+    let i = test-held 17 (leb (p .heat) (fuelEnergy (linesOf p))) (given p) (h .1) in
     let s = and-both (leb n 7) (leb (p .site) 3) (q .0) in
     let t = and-both (leb (p .count) 4 && leb (p .generation) 100000000) _ (r .0) in
     let u = and-both (leb (p .count) 4) _ (t .0) in (
-      sym (given-is (r .1)),
+      sym (given-is (i .1)),
       record {
-        judged = e ∙ sym (r .1);
+        judged = e ∙ sym (i .1);
         number = leb-true n 7 (s .0);
         lines = taken-length (p .count) 4 (p .lines) (leb-true (p .count) 4 (u .0));
-        intact = simp (s .1, r .0);
+        heat = leb-true (p .heat) (fuelEnergy (linesOf p)) (i .0);
+        intact = simp (s .1, r .0, h .0, i .0);
       },
     )
 

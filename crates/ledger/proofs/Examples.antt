@@ -1,16 +1,18 @@
 -- Lists of calls with their answers, by computation: demand 3 has reports to speak of, its constants cannot be smaller, and the rules are
 -- told from others that its inequalities would allow. Assumes nothing.
-use Prim.Native.Nat.{ℕ, _+_, _*_, _^_, _<_, _≤_}
+use Prim.Native.Nat.{ℕ, _+_, _*_, _^_, _<_}
 use mathlib.Core.Path.{_≡_, refl, sym, ap, subst, _∙_}
 use mathlib.Core.Bool.{Bool, true, false, cond, true≢false}
 use mathlib.Core.List.{List, [], _∷_}
+use mathlib.Core.Option.{some}
 use native.Mathlib.Omega.{arith}
 use lib.Dec.{lit<, lit≤}
 use lib.IntN.{pos, negsuc}
 use lib.Ieee.{binary32, ofBits}
 use lib.ListN.{length, getD, take}
 use Rattle.rounding.specs.Divided.{divided, sum}
-use Rattle.rounding.specs.Ratio.{Ratio, _÷_, whole, integer, _≤ᵣ_, _+ᵣ_, _per_, sumᵣ}
+use Rattle.rounding.specs.Ratio.{Ratio, _÷_, whole, integer, _≤ᵣ_, _+ᵣ_, _*ᵣ_, _per_, sumᵣ}
+use Rattle.rounding.specs.declared.Direction.the-variants.{Up, Down}
 use Rattle.rounding.specs.Calls.{afterCalls, answers}
 use Rattle.metering.specs.Reading.{exactRegister, isReadableRegister}
 use Rattle.metering.specs.Energy.{exactEnergy, roundedAdding, roundedTaking, allMeters, anyMeter, judgedReadings, judgedMeters, settledEnergy}
@@ -18,13 +20,13 @@ use Rattle.metering.specs.declared.Sign.{Sign}
 use Rattle.metering.specs.declared.Sign.the-variants.{Plus, Minus}
 use Rattle.metering.specs.declared.Interval.the-variants.{Counts, Singles}
 use Rattle.metering.specs.declared.Meter.{Meter}
-use Rattle.fuel.specs.Fuel.{withinLimits, exactMilligrams, roundedMilligrams}
+use Rattle.fuel.specs.Fuel.{withinLimits, exactMilligrams, roundedMilligrams, isEnergy, lineEnergy}
 use Rattle.fuel.specs.declared.FuelKind.the-variants.{Energy, Mass, Volume}
 use Rattle.fuel.specs.declared.FuelLine.{FuelLine}
 use Rattle.rounding.specs.Outcome.{Outcome, refused, given}
 use Rattle.emissions.specs.Factor.{combined, captive, exactCombined, roundedCombined, margin, exactMargin, gridDefault, captiveJudged, lowDefault, exactCaptive, exactFactorOf, chosen}
 use Rattle.emissions.specs.Loss.{lossOf}
-use Rattle.emissions.specs.Figure.{energyWithLosses, gramsOf, exactGrams, figureOf}
+use Rattle.emissions.specs.Figure.{energyWithLosses, gramsOf, exactGrams, heatRatio, gapLimit, gapAllowance, figureOf}
 use Rattle.emissions.specs.declared.GridKind.the-variants.{Thermal}
 use Rattle.emissions.specs.declared.CombinedMargin.the-variants.{Stated, Mean}
 use Rattle.emissions.specs.declared.GridEntry.{GridEntry}
@@ -38,12 +40,14 @@ use Rattle.emissions.specs.declared.Loss.{Loss}
 use Rattle.emissions.specs.declared.Loss.the-variants.{Nothing, Measured, Default20, Default3}
 use Rattle.emissions.proofs.Grids.{GridSound, sound-intact}
 use Rattle.emissions.specs.Grid.{gridJudged, gridIntact}
+use Rattle.records.specs.Heat.{fuelEnergy, allEnergy}
 use Rattle.records.specs.Judging.{metersOf, sourceJudged, isThere, dropJudged, linesOf, allWithinLimits, plantJudged}
 use Rattle.records.specs.Records.{noGrid, noPlant, noSource, gridRecord}
+use Rattle.report.specs.Heat.{linesMilligrams, exactLines, allocated, exactAllocated, electricityMilligrams, exactElectricity, heatedEnergy}
 use Rattle.report.specs.Intact.{allIntact}
-use Rattle.report.specs.Report.{ReportInput, standing, selected, consumption, plantMilligrams, exactPlant, plantsAt, siteOf, sourcesOf, sourceFigure, Figured, Figures, declined, figured, figuresFrom, ofSide, SideReport, sideReport, Report, reduction, reportFrom, Reply, ok, refusedWith, refusedAt, reported, damaged, allFit, replyFrom, reportOf, checkedReportOf, acknowledged, intact}
+use Rattle.report.specs.Report.{ReportInput, standing, selected, consumption, plantMilligrams, exactPlant, plantHeated, plantsAt, siteOf, sourcesOf, sourceFigure, Figured, Figures, declined, figured, figuresFrom, ofSide, SideReport, sideReport, Report, reduction, reportFrom, Reply, ok, refusedWith, refusedAt, reported, damaged, allFit, replyFrom, reportOf, checkedReportOf, acknowledged, intact}
 use Rattle.ledger.specs.Standing.{Call, enterGrid, enterPlant, enterSource, dropPlant, dropSource, report, Standing, nothing, after, energyOf, inputOfStanding, answer}
-use Rattle.ledger.specs.Exact.{exactFigure, gap, figuresOf, exactSide, exactReduction}
+use Rattle.ledger.specs.Exact.{sitesOf, exactFigure, gap, figuresOf, exactSide, exactReduction, limitOf, allowanceOf, sideAllowance, reductionAllowance}
 use Rattle.ledger.specs.Operations.{newLedger, step, reply}
 use Rattle.ledger.specs.Claim.{ReportSafe}
 use Rattle.records.specs.declared.Plant.{Plant}
@@ -86,12 +90,19 @@ mass Q W = record { kind = Mass Q W }
 abbrev pub volume : ℕ → ℕ → ℕ → FuelLine
 volume Q density W = record { kind = Volume Q density W }
 
--- A plant with four fuel lines, and with two.
+-- A plant with four fuel lines and no heat.
 abbrev pub plant4 : ℕ → ℕ → FuelLine → FuelLine → FuelLine → FuelLine → Plant
-plant4 S G l k m n = record { site = S; generation = G; lines = l ∷ k ∷ m ∷ n ∷ []; count = 4 }
+plant4 S G l k m n = record { site = S; generation = G; heat = 0; lines = l ∷ k ∷ m ∷ n ∷ []; count = 4 }
+
+-- A plant with heat, of whose two fuel lines the first so many count; with both; and with both and no heat.
+abbrev pub heatedBy : ℕ → ℕ → ℕ → ℕ → FuelLine → FuelLine → Plant
+heatedBy count S G H l k = record { site = S; generation = G; heat = H; lines = l ∷ k ∷ fuel 0 0 0 ∷ fuel 0 0 0 ∷ []; count = count }
+
+abbrev pub heated : ℕ → ℕ → ℕ → FuelLine → FuelLine → Plant
+heated S G H l k = heatedBy 2 S G H l k
 
 abbrev pub plant : ℕ → ℕ → FuelLine → FuelLine → Plant
-plant S G l k = record { site = S; generation = G; lines = l ∷ k ∷ fuel 0 0 0 ∷ fuel 0 0 0 ∷ []; count = 2 }
+plant S G l k = heated S G 0 l k
 
 abbrev pub thermal : ℕ → Call
 thermal F = enterGrid (record { margin = Stated F; kind = Thermal })
@@ -114,12 +125,12 @@ zeros = totals 0 0 0
 
 -- The answers to a list of calls from a new ledger. `unfolding run` opens what they compute by.
 unfoldable pub run : List Call → List Reply
-unfolding answers step reply newLedger noGrid noPlant noSource answer checkedReportOf intact allIntact gridJudged linesOf allWithinLimits plantJudged metersOf sourceJudged dropJudged withinLimits exactMilligrams roundedMilligrams judgedMeters judgedReadings allMeters anyMeter roundedAdding roundedTaking settledEnergy sum divided exactRegister isReadableRegister ofBits standing selected consumption plantMilligrams plantsAt siteOf sourceFigure figuresFrom ofSide sideReport reduction reportFrom reportOf roundedCombined margin gridDefault captiveJudged lowDefault chosen lossOf energyWithLosses gramsOf figureOf
+unfolding answers step reply newLedger noGrid noPlant noSource answer checkedReportOf intact allIntact gridJudged linesOf allWithinLimits lineEnergy isEnergy fuelEnergy allEnergy plantJudged metersOf sourceJudged dropJudged withinLimits exactMilligrams roundedMilligrams judgedMeters judgedReadings allMeters anyMeter roundedAdding roundedTaking settledEnergy sum divided exactRegister isReadableRegister ofBits standing selected consumption linesMilligrams allocated electricityMilligrams heatedEnergy plantHeated plantMilligrams plantsAt siteOf sourceFigure figuresFrom ofSide sideReport reduction reportFrom reportOf roundedCombined margin gridDefault captiveJudged lowDefault chosen lossOf energyWithLosses gramsOf figureOf
 run calls = answers step reply newLedger calls
 
 -- What stands after a list of calls. `unfolding stands` opens what its exact values compute by.
 unfoldable pub stands : List Call → Standing
-unfolding afterCalls after run energyOf exactEnergy exactCombined exactMargin exactPlant sumᵣ exactCaptive exactFactorOf exactGrams exactFigure gap exactSide
+unfolding afterCalls after run energyOf exactEnergy exactCombined exactMargin exactLines exactAllocated exactElectricity exactPlant sumᵣ exactCaptive exactFactorOf exactGrams exactFigure gap exactSide heatRatio gapLimit gapAllowance limitOf allowanceOf sideAllowance reductionAllowance
 stands calls = afterCalls after nothing calls
 
 -- "An empty ledger reports zeros."
@@ -328,6 +339,97 @@ pub grid-replaced : run (
 unfolding run
 grid-replaced = refl
 
+-- ---- heat: the part of a plant's milligrams that goes with it counts for project and leakage, not for baseline
+
+-- A project and a baseline source on one site, each of 1,000 kWh, so that its grams are its factor.
+abbrev pub onOneSite : Plant → List Call
+onOneSite p =
+    enterPlant 0 p
+    ∷ enterSource 0 (source Project (Captive 0) Nothing (counts Plus 0 1000000))
+    ∷ enterSource 1 (source Baseline (Captive 0) Nothing (counts Plus 0 1000000))
+    ∷ report
+    ∷ []
+
+-- 3 mg from 3 kJ and 0.004 mg from 4 kJ, over 1,000 kWh, with so much heat.
+abbrev pub sevenKilojoules : ℕ → List Call
+sevenKilojoules H = onOneSite (heated 0 1000 H (fuel 1 3 1000) (fuel 1 4 1))
+
+-- With 1 kJ of heat A is 3,000 ÷ 7 down, 428, and 6 × 428 ÷ 1,000 down is 2; without heat the lines' 3 mg stay. Rounded up they are 4, heat or not.
+pub heat-rounded : (sitesOf (stands (sevenKilojoules 1)) 0 .milligrams Down ≡ 2)
+    × (sitesOf (stands (sevenKilojoules 0)) 0 .milligrams Down ≡ 3)
+    × (sitesOf (stands (sevenKilojoules 1)) 0 .milligrams Up ≡ 4)
+unfolding stands
+heat-rounded = (refl, refl, refl)
+
+-- Exactly 6 × 3.004 ÷ 7 mg for baseline, and 3.004 mg for project and without heat: in tonnes over 1,000 kWh.
+pub exact-heat : Is (exactSide (stands (sevenKilojoules 1)) Baseline) 18024 7000000000000
+    × Is (exactSide (stands (sevenKilojoules 1)) Project) 3004 1000000000000
+    × Is (exactSide (stands (sevenKilojoules 0)) Baseline) 3004 1000000000000
+unfolding stands
+exact-heat = ((refl, refl), (refl, refl), (refl, refl))
+
+-- Beside it a plant without heat, 5.001 mg over 500 kWh: each plant is allocated by itself, and K is the 7 kJ of the one over the site's 1,500 kWh.
+abbrev pub besideHeat : List Call
+besideHeat =
+    enterPlant 0 (heated 0 1000 1 (fuel 1 3 1000) (fuel 1 4 1))
+    ∷ enterPlant 1 (plant 0 500 (fuel 1 5 1000) (fuel 1 1 1))
+    ∷ enterSource 0 (source Baseline (Captive 0) Nothing (counts Plus 0 1000000))
+    ∷ []
+
+pub heat-by-plant : (sitesOf (stands besideHeat) 0 .milligrams Down ≡ 7)
+    × Is (exactSide (stands besideHeat) Baseline) 53031 10500000000000
+    × (heatRatio (sitesOf (stands besideHeat) 0) ≡ some (7 ÷ 1500000))
+unfolding stands
+heat-by-plant = (refl, (refl, refl), refl)
+
+-- Half of 43,000,000 kJ is heat: the baseline source has half the factor of the project source.
+abbrev pub halfHeat : Plant
+halfHeat = heatedBy 1 0 1000 21500000 (fuel 1000 43000 74100) (mass 1 1)
+
+pub heat-for-baseline : run (onOneSite halfHeat)
+    ≡ ok ∷ ok ∷ ok ∷ reported (record { project = totals 4 3186300 1; leakage = zeros; baseline = totals 1 1593150 1; reduction = negsuc 2 }) ∷ []
+unfolding run
+heat-for-baseline = refl
+
+-- K is 43. The limit with K, 1 + (13 × (1,593,150 + 2 + 43) + (2 + 43) × 1,000,000) ÷ 1,000,000 = 66.711535 g, stands in place of 200 kilograms,
+-- where it is the smaller too; the project source has no K.
+pub heat-allowances : Is (sideAllowance (stands (onOneSite halfHeat)) Baseline) 1000066711535 1000000000000
+    × Is (sideAllowance (stands (onOneSite halfHeat)) Project) 1200 1000
+    × Is (reductionAllowance (stands (onOneSite halfHeat))) 3200066711535 1000000000000
+unfolding stands
+heat-allowances = ((refl, refl), (refl, refl), (refl, refl))
+
+-- "baseline sources that name the site" have K, also one that takes combined there: 1 + (13 × (500,000 + 2 + 43) + (2 + 43) × 1,000,000) ÷ 1,000,000.
+abbrev pub eitherWithHeat : List Call
+eitherWithHeat =
+    thermal 500000 ∷ enterPlant 0 halfHeat ∷ enterSource 0 (source Baseline (Either 0) (Measured 0) (counts Plus 0 1000000)) ∷ []
+
+abbrev pub eitherFigure : Figured
+eitherFigure =
+    record { number = 0; side = Baseline; figure = record { choice = combined; loss = 0; factor = 500000; energy = 1000000; grams = 500000 } }
+
+pub combined-with-heat : (figuresOf (stands eitherWithHeat) ≡ eitherFigure ∷ []) × Is (limitOf (stands eitherWithHeat) eitherFigure) 52500585 1000000
+unfolding stands
+combined-with-heat = (refl, (refl, refl))
+
+-- "Heat above 0 beside a carbon line is refused 16, then heat above J is refused 17, both after 2." Heat of all of J, heat 0 beside a carbon line and
+-- a carbon line that does not count are accepted; without fuel lines J is 0.
+pub heat-refusals : run (
+    enterPlant 8 (heated 0 1000 9 (mass 1 1) (fuel 1 0 1))
+    ∷ enterPlant 0 (heated 0 1000 9 (mass 1 1) (fuel 1 0 1))
+    ∷ enterPlant 0 (heated 0 1000 9 (mass 1 1) (fuel 1 7 1))
+    ∷ enterPlant 0 (heated 0 1000 1 (fuel 1 7 1) (volume 1 1 1))
+    ∷ enterPlant 0 (heated 0 1000 8 (fuel 1 3 1000) (fuel 1 4 1))
+    ∷ enterPlant 0 (heatedBy 0 0 1000 1 (fuel 1 3 1000) (fuel 1 4 1))
+    ∷ enterPlant 0 (heated 0 1000 7 (fuel 1 3 1000) (fuel 1 4 1))
+    ∷ enterPlant 0 (heated 0 1000 0 (mass 1 1) (fuel 1 7 1))
+    ∷ enterPlant 0 (heatedBy 1 0 1000 3 (fuel 1 3 1000) (mass 1 1))
+    ∷ []
+    )
+    ≡ refusedWith 1 ∷ refusedWith 2 ∷ refusedWith 16 ∷ refusedWith 16 ∷ refusedWith 17 ∷ refusedWith 17 ∷ ok ∷ ok ∷ ok ∷ []
+unfolding run
+heat-refusals = refl
+
 -- ---- what stands
 
 -- A dropped source counts no more, and a second drop finds nothing.
@@ -524,6 +626,71 @@ not-2-tonnes = (refl, lit≤ tt)
 pub not-0-tonnes : exactSide (stands nearTonnes) Project +ᵣ (200 * 1) ÷ 1000 ≤ᵣ whole 1
 unfolding stands
 not-0-tonnes = lit≤ tt
+
+-- ---- nor can those with K: 13 × (F + 2 + K), 2 + K, and the limit in place of 200 kilograms
+
+-- A is 1.5 mg/MJ cut to 1, so that the factor is 999,999 where the exact one is nearly 1,500,000. K is 1,000,000.
+abbrev pub cutFactor : SourceEntry → List Call
+cutFactor e = thermal 10000000 ∷ enterPlant 0 (heated 0 1000 1 (fuel 100000000 5000 1) (fuel 100000000 5000 2)) ∷ enterSource 0 e ∷ []
+
+abbrev pub cutFigure : ℕ → ℕ → Figured
+cutFigure U g =
+    record { number = 0; side = Baseline; figure = record { choice = captive 0; loss = 5000; factor = 999999; energy = U; grams = g } }
+
+-- 1,000 MWh: the gap, 750 t, against 3,027 g with 2 for 2 + K, and against 200 kilograms.
+abbrev pub cutLarge : List Call
+cutLarge = cutFactor (largeSource Baseline 1000000000)
+
+pub not-2-without-K : (figuresOf (stands cutLarge) ≡ cutFigure 1500000000 1499998500 ∷ [])
+    × (whole 1 +ᵣ (13 * (999999 + 2 + 1000000) + 2 * 1500000000) ÷ 1000000 ≤ᵣ gap (stands cutLarge) (cutFigure 1500000000 1499998500))
+unfolding stands
+not-2-without-K = (refl, lit≤ tt)
+
+pub not-200-with-K : whole 200000 ≤ᵣ gap (stands cutLarge) (cutFigure 1500000000 1499998500)
+unfolding stands
+not-200-with-K = lit≤ tt
+
+-- Eight readings that nearly come to 8 Wh, where E is 0: the gap, 18.0 g, against 14.0 g with 13 × (F + 2).
+abbrev pub cutNothing : List Call
+cutNothing =
+    let m = singles Plus 0x3a83126f 0x3b449ba5 in
+    cutFactor (record { side = Baseline; supply = Either 0; loss = Measured 5000; meters = m ∷ m ∷ m ∷ m ∷ []; count = 4 })
+
+pub not-13-without-K : (figuresOf (stands cutNothing) ≡ cutFigure 0 0 ∷ [])
+    × (whole 1 +ᵣ (13 * (999999 + 2)) ÷ 1000000 ≤ᵣ gap (stands cutNothing) (cutFigure 0 0))
+unfolding stands
+not-13-without-K = (refl, lit≤ tt)
+
+-- Eight plants with heat, each of whose roundings loses nearly what it may.
+abbrev pub losingPlant : FuelLine → Plant
+losingPlant l =
+    record { site = 0; generation = 125; heat = 1; lines = fuel 35 18 1373 ∷ fuel 172 18 1802 ∷ fuel 99 18 1445 ∷ l ∷ []; count = 4 }
+
+abbrev pub manyHeats : List Call
+manyHeats =
+    thermal 10000000
+    ∷ enterPlant 0 (losingPlant (fuel 52 18 1797))
+    ∷ enterPlant 1 (losingPlant (fuel 52 18 1797))
+    ∷ enterPlant 2 (losingPlant (fuel 52 18 1797))
+    ∷ enterPlant 3 (losingPlant (fuel 52 18 1797))
+    ∷ enterPlant 4 (losingPlant (fuel 52 18 1797))
+    ∷ enterPlant 5 (losingPlant (fuel 52 18 1797))
+    ∷ enterPlant 6 (losingPlant (fuel 52 18 1797))
+    ∷ enterPlant 7 (losingPlant (fuel 64675 286 1637))
+    ∷ enterSource 0 (largeSource Baseline 100000000000)
+    ∷ []
+
+abbrev pub manyHeatsFigure : Figured
+manyHeatsFigure =
+    record { number = 0; side = Baseline; figure = record { choice = captive 0; loss = 5000; factor = 30344; energy = 150000000000; grams = 4551600000 } }
+
+-- K is 18,547,666 ÷ 1,000,000. The gap, 2,937,496 g, against 2,932,151 g with 1 + K for 2 + K at U.
+pub not-1-with-K : (figuresOf (stands manyHeats) ≡ manyHeatsFigure ∷ [])
+    × (heatRatio (sitesOf (stands manyHeats) 0) ≡ some (18547666 ÷ 1000000))
+    × (whole 1 +ᵣ ((whole 13 *ᵣ (whole (30344 + 2) +ᵣ 18547666 ÷ 1000000) +ᵣ (whole 1 +ᵣ 18547666 ÷ 1000000) *ᵣ whole 150000000000) per 1000000)
+    ≤ᵣ gap (stands manyHeats) manyHeatsFigure)
+unfolding stands
+not-1-with-K = (refl, refl, lit≤ tt)
 
 -- ---- `damaged`
 

@@ -7,9 +7,7 @@ use mathlib.Core.Option.{Option, none, some}
 use native.Mathlib.Omega.{arith}
 use native.Mathlib.Nat.{mul-pos}
 use lib.Dec.{eqb}
-use lib.ListN.{length}
-use Rattle.rounding.specs.Divided.{divided, sum}
-use Rattle.rounding.specs.Ratio.{Ratio, _per_, sumᵣ, Conservative}
+use Rattle.rounding.specs.Ratio.{Ratio, sumᵣ, Conservative}
 use Rattle.rounding.specs.declared.Direction.{Direction}
 use Rattle.rounding.specs.Lists.{All}
 use Rattle.rounding.proofs.Ratio.{Within, all-then, sum-over, conservative-within, conservative-distance}
@@ -17,20 +15,20 @@ use Rattle.metering.specs.Reading.{limit}
 use Rattle.metering.specs.Energy.{exactEnergy}
 use Rattle.metering.proofs.Readings.{unit-above-zero}
 use Rattle.rounding.specs.Outcome.{Outcome, refused, given}
-use Rattle.emissions.specs.Factor.{direction, Chosen, chosen, exactFactorOf}
+use Rattle.emissions.specs.Factor.{direction, siteNamed, Chosen, chosen, exactFactorOf}
 use Rattle.emissions.specs.Loss.{lossOf}
-use Rattle.emissions.specs.Figure.{Figure, figureOf, energyWithLosses, gramsOf, exactGrams, gapLimit, gapAllowance}
+use Rattle.emissions.specs.Figure.{Figure, figureOf, energyWithLosses, gramsOf, exactGrams, heatFor, gapLimit, gapAllowance}
 use Rattle.emissions.specs.declared.Side.{Side}
 use Rattle.emissions.specs.declared.Side.the-variants.{Project, Leakage, Baseline}
 use Rattle.rounding.proofs.Outcomes.{given-is, then-given}
 use Rattle.emissions.proofs.Grids.{GridSound}
 use Rattle.emissions.proofs.Factors.{FactorSound, chosen-sound}
 use Rattle.emissions.proofs.Losses.{loss-limit}
-use Rattle.emissions.proofs.Figures.{figure-conservative, figure-within-allowance, figure-over}
+use Rattle.emissions.proofs.Figures.{figure-conservative, figure-within-allowance, figure-over, limit-over, allowance-over}
 use Rattle.records.specs.Judging.{metersOf, kept}
-use Rattle.report.specs.Report.{Numbered, sourcesOf, plantsOf, consumption, comparesFactor, comparesLoss, siteOf, captiveAt, sourceFigure, Figured, Figures, declined, figured, withFigure, figuresFrom, sideIndex, ofSide, gramsIn, sideReport, Report, reportFrom, refusedWith, refusedAt, reported, allFit, replyFrom, reportOf}
+use Rattle.report.specs.Report.{Numbered, sourcesOf, plantsOf, consumption, comparesFactor, comparesLoss, captiveAt, sourceFigure, Figured, Figures, declined, figured, withFigure, figuresFrom, sideIndex, ofSide, gramsIn, sideReport, Report, reportFrom, refusedWith, refusedAt, reported, allFit, replyFrom, reportOf}
 use Rattle.ledger.specs.Standing.{Standing, energyOf, keptOf, gridOf, inputOfStanding}
-use Rattle.ledger.specs.Exact.{figuredAt, exactEnergyOf, exactFigure, gap, listOf, figuresOf, exactSide, exactReduction, sideAllowance}
+use Rattle.ledger.specs.Exact.{figuredAt, exactEnergyOf, sitesOf, exactFigure, gap, listOf, figuresOf, exactSide, exactReduction, heatRatioOf, limitOf, allowanceOf, sideAllowance, reductionAllowance}
 use Rattle.ledger.specs.Claim.{SourceSafe, SideSafe, ReportSafe}
 use Rattle.records.specs.declared.Plant.{Plant}
 use Rattle.records.specs.declared.SourceEntry.{SourceEntry}
@@ -46,11 +44,16 @@ pub record Accepted (s : Standing) : Type 0 where
   pub plant : (n : ℕ) (p : Plant) → s .plant n ≡ some p → PlantFacts n p
   pub source : (n : ℕ) (e : SourceEntry) → s .source n ≡ some e → SourceFacts n e
 
--- A figure on the safe side of its exact figure.
-pub record FiguredSafe (s : Standing) (f : Figured) : Type 0 where
-  pub fraction : 0 < exactFigure s f .over
-  pub near : Conservative (direction (f .side)) (f .figure .grams) (exactFigure s f) (gapLimit (f .figure .factor) (f .figure .energy))
-  pub small : Conservative (direction (f .side)) (f .figure .grams) (exactFigure s f) gapAllowance
+-- Grams g on the safe side of an exact figure x, within a limit l and an allowance a.
+pub record GramsSafe (dir : Direction) (g : ℕ) (x l a : Ratio) : Type 0 where
+  pub fraction : 0 < x .over
+  pub limitFraction : 0 < l .over
+  pub allowanceFraction : 0 < a .over
+  pub near : Conservative dir g x l
+  pub small : Conservative dir g x a
+
+abbrev pub FiguredSafe : Standing → Figured → Type 0
+FiguredSafe s f = GramsSafe (direction (f .side)) (f .figure .grams) (exactFigure s f) (limitOf s f) (allowanceOf s f)
 
 energy-over : (e : SourceEntry) → 0 < exactEnergy (metersOf e) .over
 unfolding exactEnergy
@@ -63,41 +66,51 @@ module _ (s : Standing) (h : Accepted s) (n : ℕ) (e : SourceEntry) (at : s .so
     (hc : chosen (direction (e .side)) (gridOf (s .grid)) (captiveAt (direction (e .side)) (plantsOf (inputOfStanding s))) (consumption comparesFactor (sourcesOf (inputOfStanding s))) (e .supply)
     ≡ given x)
     (hT : lossOf (direction (e .side)) (consumption comparesLoss (sourcesOf (inputOfStanding s))) (e .loss) ≡ given T) where
+  abbrev dir : Direction
+  dir = direction (e .side)
+
   abbrev F : ℕ
   F = x .factor
 
-  abbrev exactF : Ratio
-  exactF = exactFactorOf (gridOf (s .grid)) (siteOf (plantsOf (inputOfStanding s))) (x .choice)
+  abbrev U : ℕ
+  U = energyWithLosses dir (energyOf e) T
 
-  factor : FactorSound (direction (e .side)) F exactF
+  abbrev exactF : Ratio
+  exactF = exactFactorOf dir (gridOf (s .grid)) (sitesOf s) (x .choice)
+
+  -- Its K.
+  abbrev heat : Option Ratio
+  heat = heatFor dir (sitesOf s) (siteNamed (e .supply))
+
+  factor : FactorSound dir F exactF heat
   factor =
-      chosen-sound (direction (e .side)) (gridOf (s .grid)) (siteOf (plantsOf (inputOfStanding s))) (consumption comparesFactor (sourcesOf (inputOfStanding s))) (h .grid)
-      (site-sound (s .plant) (λ k p q. h .plant k p q .lines)) (e .supply) x hc
+      chosen-sound dir (gridOf (s .grid)) (sitesOf s) (consumption comparesFactor (sourcesOf (inputOfStanding s))) (h .grid)
+      (site-sound (s .plant) (λ k p q. (h .plant k p q .lines, h .plant k p q .heat))) (e .supply) x hc
 
   loss : T ≤ 5000
-  loss = loss-limit (direction (e .side)) (consumption comparesLoss (sourcesOf (inputOfStanding s))) (e .loss) T (h .source n e at .loss) hT
+  loss = loss-limit dir (consumption comparesLoss (sourcesOf (inputOfStanding s))) (e .loss) T (h .source n e at .loss) hT
 
-  exact-is : exactFigure s (figuredAt n e (figureOf (direction (e .side)) (energyOf e) (x .choice) T F)) ≡ exactGrams (exactEnergy (metersOf e)) T exactF
-  unfolding exactFigure figureOf
-  exact-is = ap (λ (o : Option SourceEntry). exactGrams (exactEnergyOf o) T exactF) at
-
-  option-safe : FiguredSafe s (figuredAt n e (figureOf (direction (e .side)) (energyOf e) (x .choice) T F))
-  unfolding figureOf
-  option-safe =
+  -- By the entry itself,
+  entry-safe : GramsSafe dir (gramsOf dir U F) (exactGrams (exactEnergy (metersOf e)) T exactF) (gapLimit heat F U) (gapAllowance heat F U)
+  entry-safe =
       let facts = h .source n e at in
-      let dir = direction (e .side) in
       let energy = exactEnergy (metersOf e) in
-      let back = sym exact-is in
-      let U = energyWithLosses dir (energyOf e) T in
-      let g = gramsOf dir U F in
       record {
-        fraction = subst (λ (r : Ratio). 0 < r .over) back (figure-over energy T exactF (energy-over e) (factor .over));
-        near = subst (λ (r : Ratio). Conservative dir g r (gapLimit F U)) back
-            (figure-conservative dir (energyOf e) T F energy exactF (energy-over e) (factor .over) (factor .unsigned) loss (facts .near) (factor .near));
-        small = subst (λ (r : Ratio). Conservative dir g r gapAllowance) back
-            (figure-within-allowance dir (energyOf e) T F energy exactF (energy-over e) (factor .over) (factor .unsigned) loss (facts .near) (factor .near)
-            (facts .limit) (factor .limit));
+        fraction = figure-over energy T exactF (energy-over e) (factor .over);
+        limitFraction = limit-over heat (factor .heat) F U;
+        allowanceFraction = allowance-over heat (factor .heat) F U;
+        near = figure-conservative dir (energyOf e) T F energy exactF heat (energy-over e) (factor .over) (factor .unsigned) (factor .heat) loss (facts .near)
+            (factor .near);
+        small = figure-within-allowance dir (energyOf e) T F energy exactF heat (energy-over e) (factor .over) (factor .unsigned) (factor .heat) loss
+            (facts .near) (factor .near) (facts .limit) (factor .limit);
       }
+
+  -- and as what stands under its number.
+  option-safe : FiguredSafe s (figuredAt n e (figureOf dir (energyOf e) (x .choice) T F))
+  unfolding figureOf exactFigure limitOf allowanceOf
+  option-safe =
+      subst (λ (o : Option SourceEntry). GramsSafe dir (gramsOf dir U F) (exactGrams (exactEnergyOf o) T exactF) (gapLimit (heatRatioOf (sitesOf s) o) F U)
+      (gapAllowance (heatRatioOf (sitesOf s) o) F U)) (sym at) entry-safe
 
 pub source-safe : (s : Standing) → Accepted s → (n : ℕ) (e : SourceEntry) → s .source n ≡ some e → (f : Figure)
     → sourceFigure (inputOfStanding s) (kept e (energyOf e)) ≡ given f → FiguredSafe s (figuredAt n e f)
@@ -111,14 +124,14 @@ source-safe s h n e at f q =
 -- ---- the list of figures
 
 -- A source that a report reads is that of a standing entry.
-abbrev Shown : Standing → Numbered Source → Type 0
+abbrev pub Shown : Standing → Numbered Source → Type 0
 Shown s x = (e : SourceEntry) × (s .source (x .number) ≡ some e) × (x .item ≡ kept e (energyOf e))
 
 shown : (s : Standing) (n : ℕ) (a : Source) (o : Option SourceEntry) → s .source n ≡ o → keptOf o ≡ some a → Shown s (numbered n a)
 shown s n a none p q = absurd (never-some q)
 shown s n a (some e) p q = (e, p, cc)
 
-all-shown : (s : Standing) → All (Shown s) (sourcesOf (inputOfStanding s))
+pub all-shown : (s : Standing) → All (Shown s) (sourcesOf (inputOfStanding s))
 all-shown s = standing-all (inputOfStanding s .source) (Shown s) 0 32 (λ n a q l u. shown s n a (s .source n) refl q)
 
 -- The source has a figure.
@@ -155,7 +168,7 @@ figures-whole s h (x ∷ xs) k fs e =
 
 -- ---- a side
 
-same-side : (a b : Side) → eqb (sideIndex a) (sideIndex b) ≡ true → direction a ≡ direction b
+pub same-side : (a b : Side) → eqb (sideIndex a) (sideIndex b) ≡ true → direction a ≡ direction b
 same-side Project Project e = refl
 same-side Project Leakage e = refl
 same-side Project Baseline e = cc
@@ -166,32 +179,35 @@ same-side Baseline Project e = cc
 same-side Baseline Leakage e = cc
 same-side Baseline Baseline e = refl
 
-module _ (s : Standing) (side : Side) (fs : List Figured) (h : All (FiguredSafe s) fs) where
+module _ (s : Standing) (side : Side) (h : All (FiguredSafe s) (figuresOf s)) where
+  abbrev fs : List Figured
+  fs = ofSide side (figuresOf s)
+
   abbrev P : Figured → Type 0
   P f = FiguredSafe s f × (eqb (sideIndex (f .side)) (sideIndex side) ≡ true)
 
-  in-side : All P (ofSide side fs)
+  in-side : All P fs
   unfolding ofSide
-  in-side = selected-all (FiguredSafe s) (λ (f : Figured). eqb (sideIndex (f .side)) (sideIndex side)) fs h
+  in-side = selected-all (FiguredSafe s) (λ (f : Figured). eqb (sideIndex (f .side)) (sideIndex side)) (figuresOf s) h
 
-  side-over : 0 < sumᵣ (map (exactFigure s) (ofSide side fs)) .over
-  side-over = sum-over (exactFigure s) (ofSide side fs) (all-then {P = P} (λ f k. k .0 .fraction) (ofSide side fs) in-side)
+  exact-over : 0 < sumᵣ (map (exactFigure s) fs) .over
+  exact-over = sum-over (exactFigure s) fs (all-then {P = P} (λ f k. k .0 .fraction) fs in-side)
 
-  side-near : All (λ (f : Figured). Within (direction side) (gramsIn f) (exactFigure s f) gapAllowance) (ofSide side fs)
+  allowances-over : 0 < sumᵣ (map (allowanceOf s) fs) .over
+  allowances-over = sum-over (allowanceOf s) fs (all-then {P = P} (λ f k. k .0 .allowanceFraction) fs in-side)
+
+  side-near : All (λ (f : Figured). Within (direction side) (gramsIn f) (exactFigure s f) (allowanceOf s f)) fs
   side-near =
-      all-then {P = P} (λ f k. subst (λ (dir : Direction). Within dir (gramsIn f) (exactFigure s f) gapAllowance) (same-side (f .side) side (k .1))
-      (conservative-within (direction (f .side)) (gramsIn f) (exactFigure s f) gapAllowance (k .0 .small))) (ofSide side fs) in-side
+      all-then {P = P} (λ f k. subst (λ (dir : Direction). Within dir (gramsIn f) (exactFigure s f) (allowanceOf s f)) (same-side (f .side) side (k .1))
+      (conservative-within (direction (f .side)) (gramsIn f) (exactFigure s f) (allowanceOf s f) (k .0 .small))) fs in-side
 
-  pub side-safe : figuresOf s ≡ fs → SideSafe s side (sideReport side fs)
-  unfolding exactSide sideReport
-  side-safe e =
-      let dir = direction side in
-      let t = divided dir (sum (map gramsIn (ofSide side fs))) 1000000 in
+  pub side-safe : SideSafe s side (sideReport side (figuresOf s))
+  unfolding exactSide sideAllowance sideReport
+  side-safe =
       record {
-        fraction = subst (λ (gs : List Figured). 0 < (sumᵣ (map (exactFigure s) (ofSide side gs)) per 1000000) .over) (sym e)
-            (mul-pos side-over (omega arith));
-        safe = subst (λ (gs : List Figured). Conservative dir t (sumᵣ (map (exactFigure s) (ofSide side gs)) per 1000000) (sideAllowance (length (ofSide side fs))))
-            (sym e) (side-conservative dir gramsIn (exactFigure s) (ofSide side fs) side-near side-over);
+        fraction = mul-pos exact-over (omega arith);
+        allowanceFraction = mul-pos (mul-pos allowances-over (omega arith)) (omega arith);
+        safe = side-conservative (direction side) gramsIn (exactFigure s) (allowanceOf s) fs side-near exact-over allowances-over;
       }
 
 -- ---- the whole report
@@ -201,7 +217,9 @@ module _ (s : Standing) (h : Accepted s) (fs : List Figured) (e : figuresFrom (i
   all-safe = figures-whole s h (sourcesOf (inputOfStanding s)) (all-shown s) fs e
 
   each-side : (side : Side) → SideSafe s side (sideReport side fs)
-  each-side side = side-safe s side fs (all-safe .1) (ap listOf e)
+  each-side side =
+      subst (λ (gs : List Figured). SideSafe s side (sideReport side gs)) (ap listOf e)
+      (side-safe s side (subst (All (FiguredSafe s)) (sym (ap listOf e)) (all-safe .1)))
 
   each-source : (n : ℕ) (a : SourceEntry) → s .source n ≡ some a → (f : Figure) × SourceSafe s n a f
   unfolding gap
@@ -215,28 +233,34 @@ module _ (s : Standing) (h : Accepted s) (fs : List Figured) (e : figuresFrom (i
         record {
           counted = c .1;
           fraction = k .fraction;
+          limitFraction = k .limitFraction;
+          allowanceFraction = k .allowanceFraction;
           safe = k .near;
-          gapBelow = conservative-distance dir (c .0 .grams) (exactFigure s x) (gapLimit (c .0 .factor) (c .0 .energy)) (k .near);
-          gapSmall = conservative-distance dir (c .0 .grams) (exactFigure s x) gapAllowance (k .small);
+          gapBelow = conservative-distance dir (c .0 .grams) (exactFigure s x) (limitOf s x) (k .near);
+          gapSmall = conservative-distance dir (c .0 .grams) (exactFigure s x) (allowanceOf s x) (k .small);
         },
       )
 
   figures-safe : ReportSafe s (reportFrom fs)
-  unfolding reportFrom exactReduction
+  unfolding reportFrom exactReduction sideAllowance reductionAllowance
   figures-safe =
       let b = each-side Baseline in
       let p = each-side Project in
       let l = each-side Leakage in
+      let B = exactSide s Baseline in
+      let P = exactSide s Project in
+      let L = exactSide s Leakage in
       record {
         sources = each-source;
         project = p;
         leakage = l;
         baseline = b;
-        fraction = reduction-over (exactSide s Baseline) (exactSide s Project) (exactSide s Leakage) (b .fraction) (p .fraction) (l .fraction);
-        reductionSafe = reduction-safe _ _ _ _ _ _ (exactSide s Baseline) (exactSide s Project) (exactSide s Leakage)
-            (b .fraction) (p .fraction) (l .fraction) (b .safe) (p .safe) (l .safe);
-        reductionNear = reduction-near _ _ _ _ _ _ (exactSide s Baseline) (exactSide s Project) (exactSide s Leakage)
-            (b .fraction) (p .fraction) (l .fraction) (b .safe) (p .safe) (l .safe);
+        fraction = reduction-over B P L (b .fraction) (p .fraction) (l .fraction);
+        allowanceFraction = mul-pos (b .allowanceFraction) (mul-pos (p .allowanceFraction) (l .allowanceFraction));
+        reductionSafe = reduction-safe _ _ _ B P L _ _ _ (p .fraction) (l .fraction) (p .allowanceFraction) (l .allowanceFraction)
+            (b .safe) (p .safe) (l .safe);
+        reductionNear = reduction-near _ _ _ B P L _ _ _ (p .fraction) (l .fraction) (p .allowanceFraction) (l .allowanceFraction)
+            (b .safe) (p .safe) (l .safe);
       }
 
 -- A report that is given is safe.

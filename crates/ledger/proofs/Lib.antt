@@ -3,6 +3,7 @@ pub mod Stores
 pub mod Sides
 pub mod Bounds
 pub mod Figures
+pub mod Allowances
 pub mod Demand3
 pub mod Examples
 pub mod Bench

@@ -1,11 +1,11 @@
--- The exact values of what stands (document 01, "The exact figure of a source ..").
-use Prim.Native.Nat.{ℕ, _+_, _*_}
+-- The exact values of what stands (document 01, "The exact figure of a source .."), and how far a report may stand from them.
+use Prim.Native.Nat.{ℕ}
 use mathlib.Core.List.{List, [], map}
 use mathlib.Core.Option.{Option, none, some}
-use Rattle.rounding.specs.Ratio.{Ratio, _÷_, whole, _-ᵣ_, _per_, sumᵣ, distance}
+use Rattle.rounding.specs.Ratio.{Ratio, whole, _+ᵣ_, _-ᵣ_, _per_, sumᵣ, distance}
 use Rattle.metering.specs.Energy.{exactEnergy}
-use Rattle.emissions.specs.Factor.{exactFactorOf}
-use Rattle.emissions.specs.Figure.{Figure, exactGrams}
+use Rattle.emissions.specs.Factor.{direction, Site, siteNamed, exactFactorOf}
+use Rattle.emissions.specs.Figure.{Figure, exactGrams, heatFor, gapLimit, gapAllowance}
 use Rattle.emissions.specs.declared.Side.{Side}
 use Rattle.emissions.specs.declared.Side.the-variants.{Project, Leakage, Baseline}
 use Rattle.records.specs.Judging.{metersOf}
@@ -22,12 +22,16 @@ exactEnergyOf (some e) = exactEnergy (metersOf e)
 abbrev pub figuredAt : ℕ → SourceEntry → Figure → Figured
 figuredAt n e f = record { number = n; side = e .side; figure = f }
 
+-- The sites of the plants that stand.
+abbrev pub sitesOf : Standing → ℕ → Site
+sitesOf s = siteOf (plantsOf (inputOfStanding s))
+
 -- "The exact figure of a source is its figure with e for E, unrounded quotients and the same chosen options (of two equal factors under
 -- either, combined), and rounds nowhere".
 unfoldable pub exactFigure : Standing → Figured → Ratio
 exactFigure s f =
     exactGrams (exactEnergyOf (s .source (f .number))) (f .figure .loss)
-    (exactFactorOf (gridOf (s .grid)) (siteOf (plantsOf (inputOfStanding s))) (f .figure .choice))
+    (exactFactorOf (direction (f .side)) (gridOf (s .grid)) (sitesOf s) (f .figure .choice))
 
 -- "its gap is the grams between the two".
 unfoldable pub gap : Standing → Figured → Ratio
@@ -49,10 +53,23 @@ exactSide s side = sumᵣ (map (exactFigure s) (ofSide side (figuresOf s))) per 
 unfoldable pub exactReduction : Standing → Ratio
 exactReduction s = exactSide s Baseline -ᵣ exactSide s Project -ᵣ exactSide s Leakage
 
--- The allowances in tonnes: 1 tonne a side and 200 kilograms for each of its sources; 3 tonnes and 200 kilograms for each source in the
--- reduction.
-abbrev pub sideAllowance : ℕ → Ratio
-sideAllowance sources = (1000 + 200 * sources) ÷ 1000
+-- ---- the allowances
 
-abbrev pub reductionAllowance : ℕ → Ratio
-reductionAllowance sources = (3000 + 200 * sources) ÷ 1000
+-- The K of the source under a number, where it is a baseline source that names a site with heat.
+abbrev pub heatRatioOf : (ℕ → Site) → Option SourceEntry → Option Ratio
+heatRatioOf site none = none
+heatRatioOf site (some e) = heatFor (direction (e .side)) site (siteNamed (e .supply))
+
+-- The limit of a source's gap, and what the source adds to the allowances, in grams.
+unfoldable pub limitOf : Standing → Figured → Ratio
+limitOf s f = gapLimit (heatRatioOf (sitesOf s) (s .source (f .number))) (f .figure .factor) (f .figure .energy)
+
+unfoldable pub allowanceOf : Standing → Figured → Ratio
+allowanceOf s f = gapAllowance (heatRatioOf (sitesOf s) (s .source (f .number))) (f .figure .factor) (f .figure .energy)
+
+-- In tonnes: 1 tonne a side and the allowance of each of its sources; so for each of the three sides in the reduction.
+unfoldable pub sideAllowance : Standing → Side → Ratio
+sideAllowance s side = sumᵣ (map (allowanceOf s) (ofSide side (figuresOf s))) per 1000000 +ᵣ whole 1
+
+unfoldable pub reductionAllowance : Standing → Ratio
+reductionAllowance s = sideAllowance s Baseline +ᵣ (sideAllowance s Project +ᵣ sideAllowance s Leakage)

@@ -109,6 +109,8 @@ enum LedgerKind {
     OneSite,
     // All sources are either and name one of four sites.
     EitherSites,
+    // The same, where all plants have heat.
+    HeatedSites,
 }
 
 fn ledger_kind(number: u32) -> LedgerKind {
@@ -116,7 +118,8 @@ fn ledger_kind(number: u32) -> LedgerKind {
         0 => LedgerKind::NoSite,
         1 => LedgerKind::SomeSites,
         2 => LedgerKind::OneSite,
-        _ => LedgerKind::EitherSites,
+        3 => LedgerKind::EitherSites,
+        _ => LedgerKind::HeatedSites,
     }
 }
 
@@ -142,6 +145,7 @@ fn supply(kind: LedgerKind, seed: u32) -> Supply {
         LedgerKind::SomeSites => supply_of(seed % 5, site),
         LedgerKind::OneSite => Supply::Captive(site),
         LedgerKind::EitherSites => Supply::Either(site),
+        LedgerKind::HeatedSites => Supply::Either(site),
     }
 }
 
@@ -155,12 +159,21 @@ fn energy_line(quantity: u32) -> FuelLine {
     }
 }
 
+// About half of the energy of a plant's fuel where plants have heat.
+fn heat(kind: LedgerKind, seed: u32) -> u64 {
+    match kind {
+        LedgerKind::HeatedSites => 86_000_000 + seed as u64,
+        _ => 0,
+    }
+}
+
 fn plant(kind: LedgerKind, seed: u32) -> Plant {
     let line = energy_line(1_000 + seed % 1_000);
     Plant {
         site: site(kind, seed),
         count: Plant::LINES_LIMIT,
         generation: 70_000,
+        heat: heat(kind, seed),
         lines: [line; Plant::LINE_PLACES],
     }
 }
@@ -320,7 +333,8 @@ pub extern "C" fn measure_report(words: &[u32], number: u32, times: u32) -> u64 
 // A call of the functions below: an entry of the grid (0), of a plant (1) or of a source (2), a drop of a plant
 // (3) or of a source (4), or a report. Each field of an entry is a decimal digit of `fields`, from the last one
 // on: of a grid its kind, its form and, of two digits each, its weights, of a plant its site and count, of a
-// source its side, supply, site, loss, count and meters; the digits before these are the meters' ratio.
+// source its side, supply, site, loss, count and meters; the digits before these are a plant's heat in MJ or the
+// meters' ratio.
 struct Call {
     kind: u32,
     number: u8,
@@ -383,6 +397,7 @@ fn plant_entry(call: Call) -> Plant {
         site: (call.fields % 10) as u8,
         count: (call.fields / 10 % 10) as u8,
         generation: call.first,
+        heat: (call.fields / 100) as u64 * 1_000,
         lines: [line; Plant::LINE_PLACES],
     }
 }

@@ -1,26 +1,30 @@
 -- How an entry and a drop are judged, test by test in the order of the code, and what an answer says of it. Assumes nothing.
 use Prim.Native.Nat.{ℕ, _+_, _≤_, _<_}
 use mathlib.Core.Path.{_≡_, refl, sym, ap, _∙_}
-use mathlib.Core.Bool.{Bool, true, false, not, _&&_}
-use mathlib.Core.List.{List}
+use mathlib.Core.Bool.{Bool, true, false, not, _&&_, _||_}
+use mathlib.Core.List.{List, [], _∷_}
 use native.Mathlib.Numerals.{add-one}
 use native.Mathlib.Omega.{arith}
-use lib.Dec.{leb}
+use lib.Dec.{leb, ltb}
 use lib.ListN.{length, take, drop, getD, drop-of-length-le}
 use lib.Seq.{drop-cons, getD-take, length-take-le}
-use borrow.Author.Tests.{le-leb, lt-leb}
+use borrow.Author.Tests.{le-leb, lt-leb, ltb-false}
 use Rattle.rounding.specs.Outcome.{Outcome, refused, given, refuseUnless}
 use Rattle.rounding.proofs.Outcomes.{given-is, test-held}
+use Rattle.rounding.proofs.Tests.{and-both}
 use Rattle.metering.specs.Energy.{judgedMeters, settledEnergy}
 use Rattle.metering.specs.declared.MetersJudged.{MetersJudged}
 use Rattle.metering.specs.declared.EnergyJudged.{EnergyJudged}
-use Rattle.fuel.specs.Fuel.{withinLimits}
+use Rattle.fuel.specs.Fuel.{withinLimits, isEnergy}
 use Rattle.fuel.specs.declared.FuelLine.{FuelLine}
 use Rattle.emissions.specs.Factor.{direction}
 use Rattle.emissions.specs.declared.Loss.{Loss}
 use Rattle.emissions.specs.declared.Loss.the-variants.{Nothing, Measured, Default20, Default3}
+use Rattle.records.specs.Heat.{hasHeat, fuelEnergy, allEnergy, allStated, heatJudged}
 use Rattle.records.specs.Judging.{linesOf, allWithinLimits, plantJudged, supplyWithinLimits, lossWithinLimits, isNothing, isSomething, lossMatches, onRead, onEnergy, kept, sourceJudged, answerOf}
 use Rattle.records.specs.declared.Answer.the-variants.{Accepted, Refused}
+use Rattle.records.specs.declared.HeatJudged.{HeatJudged}
+use Rattle.records.specs.declared.HeatJudged.the-variants as heat
 use Rattle.records.specs.declared.Plant.{Plant}
 use Rattle.records.specs.declared.SourceEntry.{SourceEntry}
 use Rattle.records.specs.declared.Source.{Source}
@@ -42,18 +46,64 @@ was-given (given a) e = (a, refl)
 -- ---- a plant's lines
 
 -- Line i and those after it, where i is one of the first n.
+pub lines-next : (ls : List FuelLine) (n i : ℕ) (d : FuelLine) → i < n → n ≤ length ls
+    → drop i (take n ls) ≡ getD ls i d ∷ drop (i + 1) (take n ls)
+lines-next ls n i d h k =
+    let m : i < length (take n ls) = rw (length-take-le n ls k) h in
+    rw (add-one, drop-cons (take n ls) i d m, getD-take n ls i d h)
+
+pub lines-none : (ls : List FuelLine) (n i : ℕ) → n ≤ i → n ≤ length ls → drop i (take n ls) ≡ []
+lines-none ls n i h k =
+    let m : length (take n ls) ≤ i = rw (length-take-le n ls k) h in
+    drop-of-length-le (take n ls) m
+
+-- So with their limits.
 pub next-line : (ls : List FuelLine) (n i : ℕ) (d : FuelLine) (t : Bool) → i < n → n ≤ length ls → withinLimits (getD ls i d) ≡ t
     → allWithinLimits (drop i (take n ls)) ≡ (t && allWithinLimits (drop (i + 1) (take n ls)))
 unfolding allWithinLimits
-next-line ls n i d t h k e =
-    let m : i < length (take n ls) = rw (length-take-le n ls k) h in
-    rw (add-one, drop-cons (take n ls) i d m, getD-take n ls i d h, e)
+next-line ls n i d t h k e = rw (lines-next ls n i d h k, e)
 
 pub no-line : (ls : List FuelLine) (n i : ℕ) → n ≤ i → n ≤ length ls → allWithinLimits (drop i (take n ls)) ≡ true
 unfolding allWithinLimits
-no-line ls n i h k =
-    let m : length (take n ls) ≤ i = rw (length-take-le n ls k) h in
-    rw (drop-of-length-le (take n ls) m)
+no-line ls n i h k = rw (lines-none ls n i h k)
+
+-- ---- a plant's heat
+
+-- Lines within their limits each state their energy exactly where no carbon line is among them.
+stated-energy : (ls : List FuelLine) → allWithinLimits ls ≡ true → allStated ls ≡ allEnergy ls
+unfolding allWithinLimits allStated allEnergy
+stated-energy [] h = refl
+stated-energy (l ∷ ls) h =
+    let p = and-both (withinLimits l) _ h in
+    rw (p .0, stated-energy ls (p .1)) (go (isEnergy l))
+  where
+    go : (t : Bool) → (t && true && allEnergy ls) ≡ (t && allEnergy ls)
+    go true = refl
+    go false = refl
+
+-- The tests of the heat, and what they come to by what the code finds.
+abbrev pub heatTested : Plant → Outcome Plant
+heatTested p =
+    refuseUnless 16 (not (hasHeat (p .heat)) || allEnergy (linesOf p)) (refuseUnless 17 (leb (p .heat) (fuelEnergy (linesOf p))) (given p))
+
+abbrev pub byHeat : Plant → HeatJudged → Outcome Plant
+byHeat p heat.Nothing = given p
+byHeat p (heat.Refused n) = refused n
+byHeat p (heat.Within J) = given p
+
+pub heat-found : (p : Plant) → leb (p .count) 4 ≡ true → allWithinLimits (linesOf p) ≡ true
+    → heatTested p ≡ byHeat p (heatJudged (p .heat) (p .count) (linesOf p))
+heat-found p c w = go (hasHeat (p .heat)) refl (allEnergy (linesOf p)) refl (leb (p .heat) (fuelEnergy (linesOf p))) refl
+  where
+    same : (a : Bool) → allEnergy (linesOf p) ≡ a → allStated (linesOf p) ≡ a
+    same a e = stated-energy (linesOf p) w ∙ e
+
+    go : (h : Bool) → hasHeat (p .heat) ≡ h → (a : Bool) → allEnergy (linesOf p) ≡ a → (t : Bool) → leb (p .heat) (fuelEnergy (linesOf p)) ≡ t
+        → heatTested p ≡ byHeat p (heatJudged (p .heat) (p .count) (linesOf p))
+    go false e a f t g = rw (e, le-leb (p .heat) (fuelEnergy (linesOf p)) (omega (arith, ltb-false 0 (p .heat) e)))
+    go true e true f true g = rw (e, c, same true f, f, g)
+    go true e true f false g = rw (e, c, same true f, f, g)
+    go true e false f t g = rw (e, c, same false f, f)
 
 -- ---- a plant
 
@@ -74,17 +124,25 @@ module _ (n : ℕ) (p : Plant) where
 
       -- The lines decide where the numbers let the plant through.
       pub plant-lines : (leb (p .count) 4 && leb (p .generation) 100000000) ≡ true → (t : Bool) → allWithinLimits (take (p .count) (p .lines)) ≡ t
-          → plantJudged n p ≡ refuseUnless 2 t (given p)
+          → plantJudged n p ≡ refuseUnless 2 t (heatTested p)
       unfolding plantJudged linesOf
       plant-lines g t e = rw (le-leb n 7 h, le-leb (p .site) 3 k, g, e)
+
+      -- Of a plant past 2 the heat decides.
+      pub plant-heat : (leb (p .count) 4 && leb (p .generation) 100000000) ≡ true → allWithinLimits (take (p .count) (p .lines)) ≡ true
+          → (j : HeatJudged) → heatJudged (p .heat) (p .count) (linesOf p) ≡ j → plantJudged n p ≡ byHeat p j
+      unfolding linesOf
+      plant-heat g e j q = plant-lines g true e ∙ heat-found p (and-both (leb (p .count) 4) _ g .0) e ∙ ap (byHeat p) q
 
 -- A plant is given as it was entered.
 pub plant-given : (n : ℕ) (p a : Plant) → plantJudged n p ≡ given a → a ≡ p
 unfolding plantJudged
 plant-given n p a e =
     let q = test-held 1 (leb n 7 && leb (p .site) 3) _ e in
-    let r = test-held 2 (leb (p .count) 4 && leb (p .generation) 100000000 && allWithinLimits (linesOf p)) (given p) (q .1) in
-    sym (given-is (r .1))
+    let r = test-held 2 (leb (p .count) 4 && leb (p .generation) 100000000 && allWithinLimits (linesOf p)) _ (q .1) in
+    let s = test-held 16 (not (hasHeat (p .heat)) || allEnergy (linesOf p)) _ (r .1) in
+    let t = test-held 17 (leb (p .heat) (fuelEnergy (linesOf p))) (given p) (s .1) in
+    sym (given-is (t .1))
 
 pub plant-accepted : (n : ℕ) (p : Plant) → answerOf (plantJudged n p) ≡ Accepted → plantJudged n p ≡ given p
 plant-accepted n p e = let g = was-given (plantJudged n p) e in g .1 ∙ ap given (plant-given n p (g .0) (g .1))

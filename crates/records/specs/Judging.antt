@@ -1,6 +1,7 @@
--- When an entry of a plant or a source or a drop is refused, and with which number (document 01, "How each operation declines").
+-- When an entry of a plant or a source or a drop is refused, and with which number (document 01, "How each operation declines";
+-- document 02, wishes 4 and 5).
 use Prim.Native.Nat.{ℕ}
-use mathlib.Core.Bool.{Bool, true, false, _&&_}
+use mathlib.Core.Bool.{Bool, true, false, not, _&&_, _||_}
 use mathlib.Core.List.{List, [], _∷_}
 use mathlib.Core.Option.{Option, none, some}
 use lib.Dec.{leb}
@@ -20,6 +21,7 @@ use Rattle.emissions.specs.declared.Supply.{Supply}
 use Rattle.emissions.specs.declared.Supply.the-variants.{Combined, GridDefault, Captive, CaptiveDefault, Either}
 use Rattle.emissions.specs.declared.Loss.{Loss}
 use Rattle.emissions.specs.declared.Loss.the-variants.{Nothing, Measured, Default20, Default3}
+use Rattle.records.specs.Heat.{hasHeat, fuelEnergy, allEnergy}
 use Rattle.records.specs.declared.Plant.{Plant}
 use Rattle.records.specs.declared.SourceEntry.{SourceEntry}
 use Rattle.records.specs.declared.Source.{Source}
@@ -53,11 +55,14 @@ unfoldable pub allWithinLimits : List FuelLine → Bool
 allWithinLimits [] = true
 allWithinLimits (l ∷ ls) = withinLimits l && allWithinLimits ls
 
+-- "Heat above 0 beside a carbon line is refused 16, then heat above J is refused 17, both after 2."
 unfoldable pub plantJudged : ℕ → Plant → Outcome Plant
 plantJudged number p =
     refuseUnless 1 (leb number lastPlant && leb (p .site) lastSite)
     (refuseUnless 2 (leb (p .count) linesLimit && leb (p .generation) generationLimit && allWithinLimits (linesOf p))
-    (given p))
+    (refuseUnless 16 (not (hasHeat (p .heat)) || allEnergy (linesOf p))
+    (refuseUnless 17 (leb (p .heat) (fuelEnergy (linesOf p)))
+    (given p))))
 
 -- ---- "Source entry: 1 source above 31 or site above 3. 2 meters not 1 to 4, or measured loss above 5,000. 3 .. 4 .. 5 .. 6 .."
 

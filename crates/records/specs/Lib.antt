@@ -1,3 +1,4 @@
+pub mod Heat
 pub mod Judging
 pub mod Records
 pub mod Steps

@@ -21,7 +21,7 @@ unfoldable pub noGrid : GridRecord
 noGrid = record { grid = Absent }
 
 unfoldable pub noPlant : PlantRecord
-noPlant = record { stands = false; site = 0; count = 0; generation = 0; lines = replicate 4 noLine }
+noPlant = record { stands = false; site = 0; count = 0; generation = 0; heat = 0; lines = replicate 4 noLine }
 
 unfoldable pub noSource : SourceRecord
 noSource = record { stands = false; side = Project; supply = Combined; loss = Nothing; energy = 0 }
@@ -31,14 +31,14 @@ abbrev pub gridRecord : EnteredGrid → GridRecord
 gridRecord g = record { grid = Entered g }
 
 abbrev pub plantRecord : Plant → PlantRecord
-plantRecord p = record { stands = true; site = p .site; count = p .count; generation = p .generation; lines = p .lines }
+plantRecord p = record { stands = true; site = p .site; count = p .count; generation = p .generation; heat = p .heat; lines = p .lines }
 
 abbrev pub sourceRecord : Source → SourceRecord
 sourceRecord s = record { stands = true; side = s .side; supply = s .supply; loss = s .loss; energy = s .energy }
 
 -- What a record holds, and what it shows: nothing where nothing stands.
 abbrev pub heldPlant : PlantRecord → Plant
-heldPlant r = record { site = r .site; count = r .count; generation = r .generation; lines = r .lines }
+heldPlant r = record { site = r .site; count = r .count; generation = r .generation; heat = r .heat; lines = r .lines }
 
 abbrev pub heldSource : SourceRecord → Source
 heldSource r = record { side = r .side; supply = r .supply; loss = r .loss; energy = r .energy }

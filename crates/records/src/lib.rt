@@ -1,13 +1,14 @@
 // The records of a ledger: one of the grid, one under each number of a plant and of a source. Each operation
 // is judged here and works on the one record that it changes; the owner of the ledger stores what is kept
-// (document 01, "How each operation declines").
+// (document 01, "How each operation declines"; document 02, wish 5).
 ghost use mathlib.Core.Path.{_≡_};
 ghost use Prim.Native.Nat.{_≤_};
 ghost use mathlib.Core.Bool.{_&&_};
 ghost use lib.Dec.{leb};
 ghost use lib.ListN.{take};
 ghost use Rattle.emissions.specs.Grid.{gridJudged};
-ghost use Rattle.records.specs.Judging.{lastPlant, lastSource, linesLimit, generationLimit, answerOf, allWithinLimits, plantJudged, supplyWithinLimits, lossWithinLimits, isNothing, lossMatches, sourceJudged, dropJudged, whereGiven};
+ghost use Rattle.records.specs.Heat.{heatJudged};
+ghost use Rattle.records.specs.Judging.{linesOf, lastPlant, lastSource, linesLimit, generationLimit, answerOf, allWithinLimits, plantJudged, supplyWithinLimits, lossWithinLimits, isNothing, lossMatches, sourceJudged, dropJudged, whereGiven};
 ghost use Rattle.records.specs.Records.{noGrid, noPlant, noSource, gridRecord, plantRecord, sourceRecord, heldPlant, heldSource};
 ghost use Rattle.records.specs.Steps.{sourceMeaning};
 use emissions::Grid;
@@ -17,16 +18,18 @@ use emissions::Loss;
 use emissions::Side;
 use emissions::Supply;
 use fuel::FuelLine;
+use fuel::LineEnergy;
 use metering::EnergyJudged;
 use metering::Meter;
 use metering::MetersJudged;
 
-// A captive plant as entered: its site, its generation in kWh, and its fuel lines, of which the first
-// `count` count.
+// A captive plant as entered: its site, its generation in kWh, the heat that it also makes in kJ, and its fuel
+// lines, of which the first `count` count.
 pub struct Plant {
     pub site: u8,
     pub count: u8,
     pub generation: u32,
+    pub heat: u64,
     pub lines: [FuelLine; Plant::LINE_PLACES],
 }
 
@@ -59,6 +62,7 @@ pub struct PlantRecord {
     pub site: u8,
     pub count: u8,
     pub generation: u32,
+    pub heat: u64,
     pub lines: [FuelLine; Plant::LINE_PLACES],
 }
 
@@ -68,6 +72,14 @@ pub struct SourceRecord {
     pub supply: Supply,
     pub loss: Loss,
     pub energy: u64,
+}
+
+// A plant's heat judged: none is made, the number of the refusal, 16 or 17, or the energy J that the heat is a part
+// of.
+pub enum HeatJudged {
+    Nothing,
+    Refused(u8),
+    Within(u64),
 }
 
 // The answer to an entry or a drop.
@@ -130,7 +142,36 @@ impl Plant {
         self.generation <= Plant::GENERATION_LIMIT
     }
 
-    // The entry's refusals 1 and 2 (document 01, "Plant entry").
+    // The heat's refusals 16 and 17, of lines within their limits. Lines out of them are refused with 2 before, and
+    // count here as lines that state no energy, so that no sum wraps.
+    pub fn heat_judged(self) -> HeatJudged
+        ensures { λ r. ⌜ r ≡ heatJudged (self .heat) (self .count) (linesOf self) ⌝ }
+    {
+        if self.heat == 0 {
+            return HeatJudged::Nothing;
+        }
+        if self.count > Plant::LINES_LIMIT {
+            return HeatJudged::Refused(16);
+        }
+        let lines = self.lines;
+        let count = self.count as usize;
+        let mut total: u64 = 0;
+        let mut i = 0;
+        while i < count {
+            let line = lines[i];
+            let LineEnergy::Stated(energy) = line.energy() else {
+                return HeatJudged::Refused(16);
+            };
+            total += energy;
+            i += 1;
+        }
+        if self.heat <= total {
+            return HeatJudged::Within(total);
+        }
+        HeatJudged::Refused(17)
+    }
+
+    // The entry's refusals 1, 2, 16 and 17 (document 01, "Plant entry"; document 02, wish 5).
     pub fn judged(self, number: u8) -> Answer
         ensures { λ r. ⌜ r ≡ answerOf (plantJudged number self) ⌝ }
     {
@@ -145,10 +186,15 @@ impl Plant {
         }
         let lines = self.lines;
         let count = self.count;
-        if are_within_limits(lines, count as usize) {
-            return Answer::Accepted;
+        if are_within_limits(lines, count as usize) == false {
+            return Answer::Refused(2);
         }
-        Answer::Refused(2)
+        let heat = self.heat_judged();
+        match heat {
+            HeatJudged::Nothing => Answer::Accepted,
+            HeatJudged::Refused(refusal) => Answer::Refused(refusal),
+            HeatJudged::Within(_) => Answer::Accepted,
+        }
     }
 }
 
@@ -329,6 +375,7 @@ impl PlantRecord {
             site: 0,
             count: 0,
             generation: 0,
+            heat: 0,
             lines: [line; Plant::LINE_PLACES],
         }
     }
@@ -343,6 +390,7 @@ impl PlantRecord {
             site: plant.site,
             count: plant.count,
             generation: plant.generation,
+            heat: plant.heat,
             lines,
         }
     }
@@ -356,6 +404,7 @@ impl PlantRecord {
             site: self.site,
             count: self.count,
             generation: self.generation,
+            heat: self.heat,
             lines,
         }
     }

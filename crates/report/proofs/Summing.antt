@@ -9,10 +9,10 @@ use mathlib.Core.Logic.{inl, inr}
 use native.Mathlib.Numerals.{add-one}
 use native.Mathlib.Omega.{arith}
 use native.Mathlib.Nat.{eq-or-lt-of-le}
-use lib.Dec.{eqb}
-use lib.ListN.{length, getD, set, take, drop, drop-of-length-le}
-use lib.Seq.{drop-cons, getD-take, getD-set-same, getD-set-other, length-take-le}
-use borrow.Author.Tests.{leb-true, eqb-true, eqb-false}
+use lib.Dec.{leb, eqb}
+use lib.ListN.{length, getD, set, take, drop}
+use lib.Seq.{getD-set-same, getD-set-other}
+use borrow.Author.Tests.{leb-true, lt-ltb, eqb-true, eqb-false}
 use Rattle.rounding.specs.Divided.{sum}
 use Rattle.rounding.specs.declared.Direction.{Direction}
 use Rattle.rounding.specs.declared.Direction.the-variants.{Up, Down}
@@ -27,11 +27,19 @@ use Rattle.emissions.specs.declared.Consumption.{Consumption}
 use Rattle.emissions.specs.declared.Side.{Side}
 use Rattle.emissions.specs.declared.Supply.{Supply}
 use Rattle.report.specs.Report.{PlainPlant, plainOf, Numbered, prependStanding, standing, plainAt, selected, consumption, plantMilligrams, plantsAt, siteOf}
-use Rattle.records.specs.Judging.{lastSite, supplyWithinLimits, lossWithinLimits, lossMatches}
+use Rattle.records.specs.Heat.{heatJudged}
+use Rattle.records.specs.Judging.{lastSite, linesOf, allWithinLimits, plantJudged, supplyWithinLimits, lossWithinLimits, lossMatches}
 use Rattle.records.specs.Records.{noPlant, heldPlant, plantIn, plantPlace, sourcePlace}
-use Rattle.records.proofs.Judged.{plant-site}
+use Rattle.records.proofs.Heat.{heat-none, heat-within}
+use Rattle.records.proofs.Judged.{lines-next, lines-none, byHeat, plant-site, plant-heat}
+use Rattle.report.specs.Heat.{linesMilligrams, allocated, electricityMilligrams}
 use Rattle.report.specs.Intact.{isGiven, plantIntact, sourceIntact, allIntact, sourcesIntact}
-use Rattle.report.specs.Steps.{ofDirection, share, summed, ConsumptionWithin, withShare, totalsOf, totalsSummed, plantSums, plantSummed, noPlants, sitePlus, SiteWithin, siteSums}
+use Rattle.report.specs.Steps.{ofDirection, share, summed, ConsumptionWithin, withShare, totalsOf, totalsSummed, linesSummed, electricityBy, electricityOf, plantSums, plantSummed, noPlants, sitePlus, SiteWithin, siteSums}
+use Rattle.records.specs.declared.HeatJudged.{HeatJudged}
+use Rattle.records.specs.declared.HeatJudged.the-variants as heat
+use Rattle.report.specs.declared.LineSums.{LineSums}
+use Rattle.report.specs.declared.LinesSummed.the-variants as linesCase
+use Rattle.report.specs.declared.Electricity.the-variants as electricity
 use Rattle.report.specs.declared.SiteSums.{SiteSums}
 use Rattle.report.specs.declared.PlantSummed.the-variants as plantCase
 use Rattle.report.specs.declared.Totals.{Totals}
@@ -139,40 +147,76 @@ totals-damaged sources e = chosen-second (sourcesIntact sources) (totalsCase.Sum
 
 -- ---- a plant's lines
 
--- The first n lines from line i on, and their milligrams.
-abbrev pub linesFrom : List FuelLine → ℕ → ℕ → List FuelLine
-linesFrom ls n i = drop i (take n ls)
-
-abbrev pub milligramsFrom : Direction → List FuelLine → ℕ → ℕ → ℕ
-milligramsFrom dir ls n i = sum (map (roundedMilligrams dir) (linesFrom ls n i))
-
 -- The milligrams of the lines before line i: with those of the others they come to those of all.
-pub record LinesSummed (dir : Direction) (ls : List FuelLine) (n i summed : ℕ) : Type 0 where
-  pub whole : summed + milligramsFrom dir ls n i ≡ milligramsFrom dir ls n 0
-  pub bound : summed ≤ i * 3000000000000000
+pub record LinesBefore (dir : Direction) (ls : List FuelLine) (n i before : ℕ) : Type 0 where
+  pub whole : before + linesMilligrams dir (drop i (take n ls)) ≡ linesMilligrams dir (take n ls)
+  pub bound : before ≤ i * 3000000000000000
 
 module _ (dir : Direction) (ls : List FuelLine) (n : ℕ) where
-  pub lines-start : LinesSummed dir ls n 0 0
+  pub lines-start : LinesBefore dir ls n 0 0
   lines-start = record { whole = omega arith; bound = zero-le }
 
-  module _ (i s : ℕ) (room : n ≤ length ls) (before : LinesSummed dir ls n i s) where
-    pub lines-turn : (d : FuelLine) (w : ℕ) → i < n → lineMilligrams dir (getD ls i d) ≡ given w → LinesSummed dir ls n (i + 1) (s + w)
-    unfolding sum
+  module _ (i s : ℕ) (room : n ≤ length ls) (before : LinesBefore dir ls n i s) where
+    pub lines-turn : (d : FuelLine) (w : ℕ) → i < n → lineMilligrams dir (getD ls i d) ≡ given w → LinesBefore dir ls n (i + 1) (s + w)
+    unfolding linesMilligrams sum
     lines-turn d w h e =
         let g = line-gave dir (getD ls i d) w e in
-        let m : i < length (take n ls) = rw (length-take-le n ls room) h in
-        let next : linesFrom ls n i ≡ getD ls i d ∷ linesFrom ls n (i + 1) = rw (add-one, drop-cons (take n ls) i d m, getD-take n ls i d h) in
         record {
-          whole = omega (arith, g .1, ap (λ (xs : List FuelLine). sum (map (roundedMilligrams dir) xs)) next, before .whole);
+          whole = omega (arith, g .1, ap (λ (xs : List FuelLine). sum (map (roundedMilligrams dir) xs)) (lines-next ls n i d h room), before .whole);
           bound = omega (arith, g .1, line-bound dir (getD ls i d) (g .0), before .bound);
         }
 
-    pub lines-end : n ≤ i → s ≡ milligramsFrom dir ls n 0
-    unfolding sum
+    pub lines-end : n ≤ i → s ≡ linesMilligrams dir (take n ls)
+    unfolding linesMilligrams sum
     lines-end h =
-        let m : length (take n ls) ≤ i = rw (length-take-le n ls room) h in
-        let none-left : milligramsFrom dir ls n i ≡ 0 = rw (drop-of-length-le (take n ls) m) in
+        let none-left : linesMilligrams dir (drop i (take n ls)) ≡ 0 = rw (lines-none ls n i h room) in
         omega (arith, none-left, before .whole)
+
+-- What is summed up says whether all are within their limits.
+pub lines-gave : (ls : List FuelLine) (s : LineSums) → linesCase.Summed s ≡ linesSummed ls
+    → (allWithinLimits ls ≡ true) × (s .up ≡ linesMilligrams Up ls) × (s .down ≡ linesMilligrams Down ls)
+lines-gave ls s e =
+    let g = chosen-first (allWithinLimits ls) (linesCase.Summed (record { up = linesMilligrams Up ls; down = linesMilligrams Down ls })) linesCase.Damaged (linesCase.Summed s) (λ k. let z : _≡_ {A = ℕ} 0 1 = cc in omega arith) e in
+    let same : s ≡ record { up = linesMilligrams Up ls; down = linesMilligrams Down ls } = cc in
+    (g .0, ap (λ (x : LineSums). x .up) same, ap (λ (x : LineSums). x .down) same)
+
+pub lines-damaged : (ls : List FuelLine) → linesCase.Damaged ≡ linesSummed ls → allWithinLimits ls ≡ false
+lines-damaged ls e = chosen-second (allWithinLimits ls) (linesCase.Summed (record { up = linesMilligrams Up ls; down = linesMilligrams Down ls })) linesCase.Damaged linesCase.Damaged (λ k. let z : _≡_ {A = ℕ} 0 1 = cc in omega arith) e
+
+-- ---- a plant's electricity
+
+module _ (p : Plant) (fits : (leb (p .count) 4 && leb (p .generation) 100000000) ≡ true) (site : p .site ≤ 3) (lines : allWithinLimits (linesOf p) ≡ true) where
+  -- Where the heat is not such as an entry leaves, neither is the plant.
+  pub electricity-damaged : (R : ℕ) → electricity.Damaged ≡ electricityOf p R → plantIntact (some p) ≡ false
+  unfolding linesOf
+  electricity-damaged R e = go (heatJudged (p .heat) (p .count) (linesOf p)) refl e
+    where
+      go : (j : HeatJudged) → heatJudged (p .heat) (p .count) (linesOf p) ≡ j → electricity.Damaged ≡ electricityBy (p .heat) R j
+          → isGiven (plantJudged 0 p) ≡ false
+      go heat.Nothing q e = absurd (let z : _≡_ {A = ℕ} 0 1 = cc in omega arith)
+      go (heat.Refused n) q e = ap isGiven (plant-heat 0 p zero-le site fits lines (heat.Refused n) q)
+      go (heat.Within J) q e = absurd (let z : _≡_ {A = ℕ} 0 1 = cc in omega arith)
+
+  -- Else the plant is intact, and what counts is its milligrams for baseline.
+  pub electricity-is : (R m : ℕ) → electricity.Milligrams m ≡ electricityOf p R → R ≡ linesMilligrams Down (linesOf p)
+      → (plantIntact (some p) ≡ true) × (m ≡ plantMilligrams Down (plainOf p))
+  unfolding plantMilligrams electricityMilligrams linesOf
+  electricity-is R m e r = go (heatJudged (p .heat) (p .count) (linesOf p)) refl e
+    where
+      intact : (j : HeatJudged) → heatJudged (p .heat) (p .count) (linesOf p) ≡ j → isGiven (byHeat p j) ≡ true
+          → isGiven (plantJudged 0 p) ≡ true
+      intact j q g = ap isGiven (plant-heat 0 p zero-le site fits lines j q) ∙ g
+
+      go : (j : HeatJudged) → heatJudged (p .heat) (p .count) (linesOf p) ≡ j → electricity.Milligrams m ≡ electricityBy (p .heat) R j
+          → (isGiven (plantJudged 0 p) ≡ true) × (m ≡ plantMilligrams Down (plainOf p))
+      go heat.Nothing q e =
+          let z : m ≡ R = cc in
+          (intact heat.Nothing q refl, rw (heat-none (p .heat) (p .count) (linesOf p) q) (z ∙ r))
+      go (heat.Refused n) q e = absurd (let z : _≡_ {A = ℕ} 0 1 = cc in omega arith)
+      go (heat.Within J) q e =
+          let z : m ≡ allocated J (p .heat) R = cc in
+          let k = heat-within (p .heat) (p .count) (linesOf p) J q in
+          (intact (heat.Within J) q refl, rw (lt-ltb 0 (p .heat) (k .0)) (z ∙ rw (k .2, r)))
 
 -- ---- the plants at a site
 

@@ -9,7 +9,6 @@ use lib.ListN.{length}
 use Rattle.rounding.specs.Divided.{divided, sum}
 use Rattle.rounding.specs.Ratio.{Ratio, sumᵣ}
 use Rattle.rounding.specs.declared.Direction.{Direction}
-use Rattle.fuel.specs.Fuel.{exactMilligrams, roundedMilligrams}
 use Rattle.fuel.specs.declared.FuelLine.{FuelLine}
 use Rattle.rounding.specs.Outcome.{Outcome, refused, given, andThen}
 use Rattle.emissions.specs.Factor.{direction, Site, atSite, chosen}
@@ -24,6 +23,7 @@ use Rattle.emissions.specs.declared.Grid.{Grid}
 use Rattle.emissions.specs.declared.Consumption.{Consumption}
 use Rattle.records.specs.Judging.{linesOf}
 use Rattle.records.specs.Records.{plantPlace, sourcePlace}
+use Rattle.report.specs.Heat.{electricityMilligrams, exactElectricity, heatedEnergy}
 use Rattle.report.specs.Intact.{plantIntact, sourceIntact, allIntact}
 use Rattle.records.specs.declared.Plant.{Plant}
 use Rattle.records.specs.declared.Source.{Source}
@@ -53,14 +53,15 @@ standing place from (suc count) = prependStanding from (place from) (standing pl
 abbrev pub sourcesOf : ReportInput → List (Numbered Source)
 sourcesOf input = standing (input .source) 0 32
 
--- A plant as the rules read it: its site, its generation in kWh, and the fuel lines that count.
+-- A plant as the rules read it: its site, its generation in kWh, its heat in kJ, and the fuel lines that count.
 pub record PlainPlant : Type 0 where
   pub site : ℕ
   pub generation : ℕ
+  pub heat : ℕ
   pub lines : List FuelLine
 
 abbrev pub plainOf : Plant → PlainPlant
-plainOf p = record { site = p .site; generation = p .generation; lines = linesOf p }
+plainOf p = record { site = p .site; generation = p .generation; heat = p .heat; lines = linesOf p }
 
 abbrev pub plainAt : (ℕ → Option Plant) → ℕ → Option PlainPlant
 plainAt place n = Option·map plainOf (place n)
@@ -113,12 +114,15 @@ comparesLoss (Either S) = true
 
 -- ---- a site
 
--- A plant's milligrams: its fuel lines, each rounded, and exactly.
+-- A plant's milligrams, rounded and exactly; and its J where it has heat.
 unfoldable pub plantMilligrams : Direction → PlainPlant → ℕ
-plantMilligrams dir p = sum (map (roundedMilligrams dir) (p .lines))
+plantMilligrams dir p = electricityMilligrams dir (p .heat) (p .lines)
 
-unfoldable pub exactPlant : PlainPlant → Ratio
-exactPlant p = sumᵣ (map exactMilligrams (p .lines))
+unfoldable pub exactPlant : Direction → PlainPlant → Ratio
+exactPlant dir p = exactElectricity dir (p .heat) (p .lines)
+
+unfoldable pub plantHeated : PlainPlant → ℕ
+plantHeated p = heatedEnergy (p .heat) (p .lines)
 
 -- "each plant at S".
 unfoldable pub plantsAt : ℕ → List (Numbered PlainPlant) → List PlainPlant
@@ -131,8 +135,9 @@ unfoldable pub siteOf : List (Numbered PlainPlant) → ℕ → Site
 siteOf xs S =
     record {
       milligrams = λ dir. sum (map (plantMilligrams dir) (plantsAt S xs));
-      exact = sumᵣ (map exactPlant (plantsAt S xs));
+      exact = λ dir. sumᵣ (map (exactPlant dir) (plantsAt S xs));
       generation = sum (map (λ (p : PlainPlant). p .generation) (plantsAt S xs));
+      heated = sum (map plantHeated (plantsAt S xs));
     }
 
 -- The rounded captive factor of each site in a direction, or its refusal.

@@ -22,12 +22,17 @@ use Rattle.emissions.specs.declared.Grid.{Grid}
 use Rattle.emissions.specs.declared.Side.{Side}
 use Rattle.emissions.specs.declared.Side.the-variants.{Project, Leakage, Baseline}
 use Rattle.emissions.specs.declared.Supply.{Supply}
-use Rattle.records.specs.Judging.{lastSource, lastSite, generationLimit}
+use Rattle.fuel.specs.declared.FuelLine.{FuelLine}
+use Rattle.records.specs.Heat.{heatJudged}
+use Rattle.records.specs.Judging.{lastSource, lastSite, generationLimit, linesOf, allWithinLimits}
+use Rattle.records.specs.declared.HeatJudged.{HeatJudged}
+use Rattle.records.specs.declared.HeatJudged.the-variants as heat
 use Rattle.records.specs.Records.{plantPlace, sourcePlace}
 use Rattle.records.specs.declared.Plant.{Plant}
 use Rattle.records.specs.declared.Source.{Source}
 use Rattle.records.specs.declared.PlantRecord.{PlantRecord}
 use Rattle.records.specs.declared.SourceRecord.{SourceRecord}
+use Rattle.report.specs.Heat.{linesMilligrams, allocated}
 use Rattle.report.specs.Intact.{plantIntact, sourcesIntact}
 use Rattle.report.specs.Report.{Numbered, standing, plantsIn, consumption, comparesFactor, comparesLoss, plantMilligrams, siteOf, Figured, Figures, declined, figured, withFigure, gramsIn, ofSide, allFit, Reply, refusedWith, reported, PlainPlant, plainOf}
 use Rattle.report.specs.Report as report
@@ -35,6 +40,11 @@ use Rattle.report.specs.declared.Totals.{Totals}
 use Rattle.report.specs.declared.TotalsSummed.{TotalsSummed}
 use Rattle.report.specs.declared.TotalsSummed.the-variants as totalsCase
 use Rattle.report.specs.declared.SiteSums.{SiteSums}
+use Rattle.report.specs.declared.LineSums.{LineSums}
+use Rattle.report.specs.declared.LinesSummed.{LinesSummed}
+use Rattle.report.specs.declared.LinesSummed.the-variants as linesCase
+use Rattle.report.specs.declared.Electricity.{Electricity}
+use Rattle.report.specs.declared.Electricity.the-variants as electricity
 use Rattle.report.specs.declared.PlantSummed.{PlantSummed}
 use Rattle.report.specs.declared.PlantSummed.the-variants as plantCase
 use Rattle.report.specs.declared.SitesSummed.{SitesSummed}
@@ -107,6 +117,30 @@ abbrev pub totalsSummed : List SourceRecord → TotalsSummed
 totalsSummed sources = cond (sourcesIntact sources) (totalsCase.Summed (totalsOf (sourcePlace sources))) totalsCase.Damaged
 
 -- ---- the sums of a site
+
+-- The milligrams of fuel lines where all are within their limits, each at most the bound of four.
+abbrev pub linesSummed : List FuelLine → LinesSummed
+linesSummed ls =
+    cond (allWithinLimits ls)
+    (linesCase.Summed (record { up = linesMilligrams Up ls; down = linesMilligrams Down ls }))
+    linesCase.Damaged
+
+abbrev pub LinesWithin : LinesSummed → Type 0
+LinesWithin linesCase.Damaged = Unit {0}
+LinesWithin (linesCase.Summed s) = (s .up ≤ plantBound) × (s .down ≤ plantBound)
+
+-- What counts of a plant's milligrams for baseline, by what is judged of its heat H.
+abbrev pub electricityBy : ℕ → ℕ → HeatJudged → Electricity
+electricityBy H R heat.Nothing = electricity.Milligrams R
+electricityBy H R (heat.Refused n) = electricity.Damaged
+electricityBy H R (heat.Within J) = electricity.Milligrams (allocated J H R)
+
+abbrev pub electricityOf : Plant → ℕ → Electricity
+electricityOf p R = electricityBy (p .heat) R (heatJudged (p .heat) (p .count) (linesOf p))
+
+abbrev pub ElectricityWithin : Electricity → Type 0
+ElectricityWithin electricity.Damaged = Unit {0}
+ElectricityWithin (electricity.Milligrams m) = m ≤ plantBound
 
 -- What a plant adds at its site, and what the report sums up of it, where it is intact.
 abbrev pub plantSums : PlainPlant → SiteSums

@@ -1,21 +1,24 @@
-// The report on what stands (document 01, "Losses and factors" and "Report"). The sources are summed up, then the
-// plants, and whether each is such as an entry leaves is looked at in the same pass. So the table of site factors
-// (document 02, wish 3) and the walk over the sources are given what meets the limits of accepted entries.
+// The report on what stands (document 01, "Losses and factors" and "Report"; document 02, wishes 3 and 5). The sources
+// are summed up, then the plants, and whether each is such as an entry leaves is looked at in the same pass. So the
+// table of site factors and the walk over the sources are given what meets the limits of accepted entries.
 
 ghost use mathlib.Core.Path.{_≡_};
 ghost use mathlib.Core.Bool.{true, _&&_};
 ghost use mathlib.Core.Option.{some};
-ghost use Prim.Native.Nat.{_+_, _≤_};
+ghost use Prim.Native.Nat.{_+_, _<_, _≤_};
+ghost use lib.ListN.{take};
 ghost use Rattle.emissions.specs.Answers.{factorMeaning};
 ghost use Rattle.emissions.specs.Factor.{siteNamed};
 ghost use Rattle.emissions.specs.Figure.{energyLimit};
 ghost use Rattle.emissions.specs.Grid.{gridIntact};
-ghost use Rattle.records.specs.Judging.{lastPlant, lastSource, supplyWithinLimits, lossMatches};
+ghost use Rattle.records.specs.Judging.{lastPlant, lastSource, linesLimit, supplyWithinLimits, lossMatches};
 ghost use Rattle.records.specs.Records.{sourcePlace};
+ghost use Rattle.report.specs.Heat.{allocated};
 ghost use Rattle.report.specs.Report.{standing, comparesFactor, comparesLoss, checkedReportOf, inputOfRecords};
 ghost use Rattle.report.specs.Intact.{sourceIntact, plantsIntact, sourcesIntact};
 ghost use Rattle.report.specs.Answers.{sideMeaning, reportMeaning};
 ghost use Rattle.report.specs.Steps.{
+  plantBound,
   figureBound,
   tonnesBound,
   share,
@@ -26,6 +29,10 @@ ghost use Rattle.report.specs.Steps.{
   noPlants,
   sitePlus,
   SiteWithin,
+  linesSummed,
+  LinesWithin,
+  electricityOf,
+  ElectricityWithin,
   plantSummed,
   PlantWithin,
   SitesOf,
@@ -60,8 +67,10 @@ use emissions::Loss;
 use emissions::LossJudged;
 use emissions::Side;
 use emissions::Supply;
+use fuel::FuelLine;
 use fuel::Milligrams;
 use metering::Reading;
+use records::HeatJudged;
 use records::Plant;
 use records::PlantRecord;
 use records::Source;
@@ -85,6 +94,24 @@ struct SiteSums {
     up: u64,
     down: u64,
     generation: u64,
+}
+
+// The milligrams of a plant's fuel lines, rounded up and down.
+struct LineSums {
+    up: u64,
+    down: u64,
+}
+
+// These, or that a line is out of its limits.
+enum LinesSummed {
+    Damaged,
+    Summed(LineSums),
+}
+
+// The milligrams that count for a plant's electricity, or that its heat is not such as an entry leaves.
+enum Electricity {
+    Damaged,
+    Milligrams(u64),
 }
 
 // What a plant adds at its site, or that it is not such as an entry leaves.
@@ -311,8 +338,63 @@ impl SiteSums {
     }
 }
 
-// What a plant adds at its site: its fuel lines, each rounded both ways. A line that is refused is out of its
-// limits, so that each line is tested once, here.
+// The milligrams of fuel lines, each rounded both ways. A line that is refused is out of its limits, so that each
+// line is tested once, here.
+fn lines_summed(lines: [FuelLine; Plant::LINE_PLACES], count: usize) -> LinesSummed
+    requires { ⌜ count ≤ linesLimit ⌝ }
+    ensures summed { λ r. ⌜ r ≡ linesSummed (take count lines) ⌝ }
+    ensures bound { λ r. ⌜ LinesWithin r ⌝ }
+{
+    let mut up: u64 = 0;
+    let mut down: u64 = 0;
+    let mut i = 0;
+    while i < count {
+        let line = lines[i];
+        let both = line.milligrams();
+        let rounded_up = both.up;
+        let rounded_down = both.down;
+        let Milligrams::Rounded(more) = rounded_up else {
+            return LinesSummed::Damaged;
+        };
+        let Milligrams::Rounded(less) = rounded_down else {
+            return LinesSummed::Damaged;
+        };
+        up += more;
+        down += less;
+        i += 1;
+    }
+    LinesSummed::Summed(LineSums { up, down })
+}
+
+// The milligrams of a plant with heat that count for its electricity: the fuel lines' emission factor, by their
+// energy, times the energy that is no heat. Both products fit 64 bits because the milligrams of four lines do.
+fn allocate(energy: u64, heat: u64, milligrams: u64) -> u64
+    requires { ⌜ (0 < heat) × (heat ≤ energy) × (milligrams ≤ plantBound) ⌝ }
+    ensures { λ r. ⌜ (r ≡ allocated energy heat milligrams) × (r ≤ milligrams) ⌝ }
+{
+    let factor = rounding::divide(Direction::Down, milligrams * 1_000, energy);
+    rounding::divide(Direction::Down, (energy - heat) * factor, 1_000)
+}
+
+// What counts of a plant's milligrams, rounded down, for baseline (document 02, wish 5).
+fn baseline_milligrams(plant: Plant, milligrams: u64) -> Electricity
+    requires { ⌜ milligrams ≤ plantBound ⌝ }
+    ensures counted { λ r. ⌜ r ≡ electricityOf plant milligrams ⌝ }
+    ensures bound { λ r. ⌜ ElectricityWithin r ⌝ }
+{
+    let heat = plant.heat_judged();
+    match heat {
+        HeatJudged::Nothing => Electricity::Milligrams(milligrams),
+        HeatJudged::Refused(_) => Electricity::Damaged,
+        HeatJudged::Within(energy) => Electricity::Milligrams(allocate(
+            energy,
+            plant.heat,
+            milligrams,
+        )),
+    }
+}
+
+// What a plant adds at its site.
 fn plant_summed(plant: Plant) -> PlantSummed
     ensures summed { λ r. ⌜ r ≡ plantSummed plant ⌝ }
     ensures bound { λ r. ⌜ PlantWithin r ⌝ }
@@ -324,27 +406,15 @@ fn plant_summed(plant: Plant) -> PlantSummed
         return PlantSummed::Damaged;
     }
     let lines = plant.lines;
-    let count = plant.count as usize;
-    let mut up: u64 = 0;
-    let mut down: u64 = 0;
-    let mut i = 0;
-    while i < count {
-        let line = lines[i];
-        let both = line.milligrams();
-        let rounded_up = both.up;
-        let rounded_down = both.down;
-        let Milligrams::Rounded(more) = rounded_up else {
-            return PlantSummed::Damaged;
-        };
-        let Milligrams::Rounded(less) = rounded_down else {
-            return PlantSummed::Damaged;
-        };
-        up += more;
-        down += less;
-        i += 1;
-    }
+    let count = plant.count;
+    let LinesSummed::Summed(sums) = lines_summed(lines, count as usize) else {
+        return PlantSummed::Damaged;
+    };
+    let Electricity::Milligrams(down) = baseline_milligrams(plant, sums.down) else {
+        return PlantSummed::Damaged;
+    };
     PlantSummed::Summed(SiteSums {
-        up,
+        up: sums.up,
         down,
         generation: plant.generation as u64,
     })

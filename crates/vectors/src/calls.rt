@@ -2,7 +2,7 @@
 //   0  a new ledger
 //   1  grid entry: form, a stated factor (0) or margins (1), the factor or the operating margin, the build
 //      margin, the weights of the two, thermal (0) or hydro (1); beside a factor the three are not read
-//   2  plant entry: number, site, generation, count, and four fuel lines, each as in fuel_lines.rt
+//   2  plant entry: number, site, generation, heat, count, and four fuel lines, each as in fuel_lines.rt
 //   3  source entry: number, side, supply, site, loss, measured loss, count, and four meters, each as in sources.rt
 //   4  drop of a plant: number
 //   5  drop of a source: number
@@ -72,13 +72,14 @@ fn plant(line: &[u8]) -> Plant {
     Plant {
         site: field_u8(line, 2),
         generation: field_u32(line, 3),
+        heat: field(line, 4),
         lines: [
-            field_fuel_line(line, 5),
-            field_fuel_line(line, 9),
-            field_fuel_line(line, 13),
-            field_fuel_line(line, 17),
+            field_fuel_line(line, 6),
+            field_fuel_line(line, 10),
+            field_fuel_line(line, 14),
+            field_fuel_line(line, 18),
         ],
-        count: field_u8(line, 4),
+        count: field_u8(line, 5),
     }
 }
 
@@ -142,7 +143,7 @@ fn with_grid(ledger: Ledger, line: &[u8]) -> Ledger {
 fn with_plant(mut ledger: Ledger, line: &[u8]) -> Ledger {
     let at = (field(line, 1) % 8) as usize;
     let mut held = PlantRecord::of(plant(line));
-    held.stands = field(line, 21) != 0;
+    held.stands = field(line, 22) != 0;
     ledger.plants[at] = held;
     ledger
 }

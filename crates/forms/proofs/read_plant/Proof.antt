@@ -32,6 +32,9 @@ returns c =
     let s = now (c .before .before .before .before .before .before .args .line) in
     nothing-read s (plantIn s) (c .no-form .ensures) (rw (template-read _ s 0 (c .before .before .before .read-template .ensures) (c .before .enum-told .given .1)))
 
+read-heat-requires : tie.Need-read-heat-requires
+read-heat-requires c κs = search needs
+
 read-fuels-requires : tie.Need-read-fuels-requires
 read-fuels-requires c κs = search needs
 
@@ -53,10 +56,11 @@ byte-field-requires-3 c κs = search needs
 returns-2 : tie.Need-returns-2
 unfolding plantIn callOf fitted lineOf plainLine
 returns-2 c =
-    let s = now (c .before .before .before .before .before .before .before .before .before .before .before .before .before .before .before .args .line) in
+    let s = now (c .before .before .before .before .before .before .before .before .before .before .before .before .before .before .before .before .args .line) in
+    let h = c .before .before .before .before .before .before .before .before .before .read-heat .ensures in
     let f = c .before .before .before .before .before .before .before .before .read-fuels .ensures in (
       rw (
-        template-read _ s 0 (c .before .before .before .before .before .before .before .before .before .before .before .before .read-template .ensures) (c .before .before .before .before .before .before .before .before .before .before .numbers .given .1),
+        template-read _ s 0 (c .before .before .before .before .before .before .before .before .before .before .before .before .before .read-template .ensures) (c .before .before .before .before .before .before .before .before .before .before .before .numbers .given .1),
         c .before .before .before .byte-field .ensures,
         c .before .before .word-field .ensures,
         c .before .byte-field2 .ensures,
@@ -64,6 +68,8 @@ returns-2 c =
         f .0,
         f .1 .0,
         f .1 .1,
+        h .0,
+        h .1,
         map-four fittedLine noLine _ refl,
       ),
       rw (c .before .before .before .before .before .before .plain-line .ensures),
@@ -79,6 +85,7 @@ read-plant-spec =
     enum-told
     no-form-requires
     returns
+    read-heat-requires
     read-fuels-requires
     plain-line-requires
     byte-field-requires

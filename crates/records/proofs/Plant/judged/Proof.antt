@@ -4,10 +4,10 @@ use borrow.Author.Tests.{leb-true}
 use mathlib.Core.Path.{_≡_, sym, _∙_}
 use mathlib.Core.Bool.{Bool, true, false, _&&_}
 use lib.Dec.{leb}
-use Rattle.rounding.specs.Outcome.{given, refuseUnless}
 use Rattle.rounding.proofs.Tests.{and-both, tested}
 use Rattle.records.specs.Judging.{plantJudged}
-use Rattle.records.proofs.Judged.{plant-number, plant-site, plant-figures, plant-lines}
+use Rattle.records.specs.declared.HeatJudged.{HeatJudged}
+use Rattle.records.proofs.Judged.{byHeat, plant-number, plant-site, plant-figures, plant-lines, plant-heat}
 use Rattle.records.proofs.Plant.judged.Statement.{statement}
 use Rattle.records.proofs.Plant.judged.Tie as tie
 
@@ -38,20 +38,43 @@ cast-are-within-limits c = search needs
 are-within-limits-requires : tie.Need-are-within-limits-requires
 are-within-limits-requires c κs = leb-true _ _ (and-both _ _ (fit c) .0)
 
--- The lines decide.
-decided : (c : tie.After-are-within-limits) (t : Bool) → c .are-within-limits .result ≡ t
-    → let a = c .before .before .before .before .before .before .before .args in
-    plantJudged (a .number) (a .self) ≡ refuseUnless 2 t (given (a .self))
-decided c t e =
-    let b = c .before .before .before .before in
-    let a = b .before .before .before .args in
-    plant-lines (a .number) (a .self) (b .before .before .if1 .left) (b .if2 .left) (fit (c .before)) t (sym (c .are-within-limits .ensures) ∙ e)
-
 returns-4 : tie.Need-returns-4
-returns-4 c = rw (decided (c .before) true (c .if4 .taken))
+returns-4 c =
+    let b = c .before .before .before .before .before in
+    let a = b .before .before .before .args in
+    rw (plant-lines (a .number) (a .self) (b .before .before .if1 .left) (b .if2 .left) (fit (c .before .before)) false
+    (tested _ _ (c .before .are-within-limits .ensures) true (c .if4 .taken)))
+
+heat-judged-requires : tie.Need-heat-judged-requires
+heat-judged-requires c κs = search needs
+
+-- Of lines within their limits the heat decides.
+decided : (c : tie.After-heat-judged) (j : HeatJudged) → c .heat-judged .result ≡ j
+    → let a = c .before .before .before .before .before .before .before .before .before .args in
+    plantJudged (a .number) (a .self) ≡ byHeat (a .self) j
+decided c j e =
+    let b = c .before .before .before .before .before .before in
+    let a = b .before .before .before .args in
+    plant-heat (a .number) (a .self) (b .before .before .if1 .left) (b .if2 .left) (fit (c .before .before .before))
+    (tested _ _ (c .before .before .are-within-limits .ensures) false (c .before .if4 .left)) j (sym (c .heat-judged .ensures) ∙ e)
+
+enum-told : tie.Need-enum-told
+enum-told c = search needs
+
+enum-known-heat : tie.Need-enum-known-heat
+enum-known-heat c = search needs
+
+enum-told-2 : tie.Need-enum-told-2
+enum-told-2 c = search needs
 
 returns-5 : tie.Need-returns-5
-returns-5 c = rw (decided (c .before) false (c .if4 .left))
+returns-5 c = rw (decided (c .before .before) _ (c .enum-told .given .1))
+
+returns-6 : tie.Need-returns-6
+returns-6 c = rw (decided (c .before .before .before) _ (c .before .heat .given .1))
+
+returns-7 : tie.Need-returns-7
+returns-7 c = rw (decided (c .before .before) _ (c .enum-told2 .given .1))
 
 pub judged-spec : {M : Type 1} → statement M
 judged-spec =
@@ -64,4 +87,10 @@ judged-spec =
     cast-are-within-limits
     are-within-limits-requires
     returns-4
-    returns-5)
+    heat-judged-requires
+    enum-told
+    enum-known-heat
+    enum-told-2
+    returns-5
+    returns-6
+    returns-7)
