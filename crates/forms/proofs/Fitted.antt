@@ -16,7 +16,7 @@ use Rattle.metering.specs.declared.Meter.{Meter}
 use Rattle.metering.specs.declared.MetersJudged.{MetersJudged}
 use Rattle.metering.specs.declared.MetersJudged.the-variants as metersJudged
 use Rattle.rounding.specs.declared.Direction.{Direction}
-use Rattle.fuel.specs.Fuel.{noLine, kindFits, withinLimits}
+use Rattle.fuel.specs.Fuel.{noLine, kindFits, withinLimits, allLines}
 use Rattle.fuel.specs.declared.FuelKind.{FuelKind}
 use Rattle.fuel.specs.declared.FuelKind.the-variants.{Energy, Mass, Volume}
 use Rattle.fuel.specs.declared.FuelLine.{FuelLine}
@@ -152,7 +152,7 @@ unfolding withinLimits
 line-same l = fuel-kind-same (l .kind)
 
 lines-same : (c : ℕ) (ls : List FuelLine) → allWithinLimits (take c (map fittedLine ls)) ≡ allWithinLimits (take c ls)
-unfolding allWithinLimits
+unfolding allLines
 lines-same zero ls = refl
 lines-same (suc c) [] = refl
 lines-same (suc c) (l ∷ ls) = rw (line-same l, lines-same c ls)
@@ -180,7 +180,7 @@ none-unchanged (suc k) (suc m) = ap (λ (ls : List FuelLine). noLine ∷ ls) (no
 -- Lines that are within their limits, and empty ones after them.
 lines-unchanged : (k m : ℕ) (ls : List FuelLine) → length ls ≤ k → allWithinLimits (take (length ls) (take k (ls ++ replicate m noLine))) ≡ true
     → map fittedLine (take k (ls ++ replicate m noLine)) ≡ take k (ls ++ replicate m noLine)
-unfolding allWithinLimits
+unfolding allLines
 lines-unchanged k m [] h all = none-unchanged k m
 lines-unchanged zero m (l ∷ ls) h all = absurd (omega arith)
 lines-unchanged (suc k) m (l ∷ ls) h all =

@@ -15,7 +15,7 @@ use Rattle.rounding.proofs.Outcomes.{never-given, given-is, test-held}
 use Rattle.rounding.proofs.Divided.{rounds, divided-at-most}
 use Rattle.rounding.proofs.Ratio.{rounds-conservative}
 use Rattle.rounding.proofs.Tests.{and-both}
-use Rattle.fuel.specs.Fuel.{kindFits, withinLimits, kindMilligrams, exactMilligrams, roundedMilligrams, lineMilligrams, kindEnergy, isEnergy, lineEnergy, statedEnergy}
+use Rattle.fuel.specs.Fuel.{kindFits, withinLimits, kindMilligrams, exactMilligrams, roundedMilligrams, lineMilligrams, kindEnergy, lineEnergy, statesEnergy, statedEnergy}
 use Rattle.fuel.specs.declared.FuelKind.{FuelKind}
 use Rattle.fuel.specs.declared.FuelKind.the-variants.{Energy, Mass, Volume}
 use Rattle.fuel.specs.declared.FuelLine.{FuelLine}
@@ -140,17 +140,17 @@ unfolding lineEnergy withinLimits
 line-energy-bound l e = kind-energy-bound (l .kind) e
 
 -- What is stated is the line's Q × V, of an energy line within its limits. Where nothing is stated, the line is no such line.
-pub energy-stated : (l : FuelLine) (J : ℕ) → statedEnergy l ≡ some J → ((isEnergy l && withinLimits l) ≡ true) × (J ≡ lineEnergy l)
+pub energy-stated : (l : FuelLine) (J : ℕ) → statedEnergy l ≡ some J → (statesEnergy l ≡ true) × (J ≡ lineEnergy l)
 unfolding statedEnergy
-energy-stated l J e = go (isEnergy l && withinLimits l) e
+energy-stated l J e = go (statesEnergy l) e
   where
     go : (t : Bool) → cond t (some (lineEnergy l)) none ≡ some J → (t ≡ true) × (J ≡ lineEnergy l)
     go true e = (refl, sym (Option·some-injective (lineEnergy l) J e))
     go false e = absurd (Option·none-ne-some J e)
 
-pub energy-not-stated : (l : FuelLine) → statedEnergy l ≡ none → (isEnergy l && withinLimits l) ≡ false
+pub energy-not-stated : (l : FuelLine) → statedEnergy l ≡ none → statesEnergy l ≡ false
 unfolding statedEnergy
-energy-not-stated l e = go (isEnergy l && withinLimits l) e
+energy-not-stated l e = go (statesEnergy l) e
   where
     go : (t : Bool) → cond t (some (lineEnergy l)) none ≡ none → t ≡ false
     go true e = absurd (Option·none-ne-some (lineEnergy l) (sym e))

@@ -1,6 +1,7 @@
 -- A fuel line (document 01, "Losses and factors", captive, and "Plant entry", number 2; document 02, wishes 2 and 5).
 use Prim.Native.Nat.{ℕ, _*_}
 use mathlib.Core.Bool.{Bool, true, false, cond, _&&_}
+use mathlib.Core.List.{List, [], _∷_}
 use mathlib.Core.Option.{Option, none, some}
 use lib.Dec.{leb}
 use Rattle.rounding.specs.Outcome.{Outcome, refused, given, refuseUnless}
@@ -74,9 +75,19 @@ unfoldable pub lineEnergy : FuelLine → ℕ
 lineEnergy l = kindEnergy (l .kind)
 
 -- The energy that a line within its limits states; none of a carbon line, and of a line that number 2 refuses.
+abbrev pub statesEnergy : FuelLine → Bool
+statesEnergy l = isEnergy l && withinLimits l
+
 unfoldable pub statedEnergy : FuelLine → Option ℕ
-statedEnergy l = cond (isEnergy l && withinLimits l) (some (lineEnergy l)) none
+statedEnergy l = cond (statesEnergy l) (some (lineEnergy l)) none
 
 abbrev pub energyMeaning : LineEnergy → Option ℕ
 energyMeaning Nothing = none
 energyMeaning (Stated J) = some J
+
+-- ---- several lines
+
+-- Whether each of them passes a test.
+unfoldable pub allLines : (FuelLine → Bool) → List FuelLine → Bool
+allLines test [] = true
+allLines test (l ∷ ls) = test l && allLines test ls

@@ -20,7 +20,7 @@ use Rattle.metering.specs.declared.Sign.{Sign}
 use Rattle.metering.specs.declared.Sign.the-variants.{Plus, Minus}
 use Rattle.metering.specs.declared.Interval.the-variants.{Counts, Singles}
 use Rattle.metering.specs.declared.Meter.{Meter}
-use Rattle.fuel.specs.Fuel.{withinLimits, exactMilligrams, roundedMilligrams, isEnergy, lineEnergy}
+use Rattle.fuel.specs.Fuel.{withinLimits, exactMilligrams, roundedMilligrams, isEnergy, lineEnergy, allLines}
 use Rattle.fuel.specs.declared.FuelKind.the-variants.{Energy, Mass, Volume}
 use Rattle.fuel.specs.declared.FuelLine.{FuelLine}
 use Rattle.rounding.specs.Outcome.{Outcome, refused, given}
@@ -40,8 +40,8 @@ use Rattle.emissions.specs.declared.Loss.{Loss}
 use Rattle.emissions.specs.declared.Loss.the-variants.{Nothing, Measured, Default20, Default3}
 use Rattle.emissions.proofs.Grids.{GridSound, sound-intact}
 use Rattle.emissions.specs.Grid.{gridJudged, gridIntact}
-use Rattle.records.specs.Heat.{fuelEnergy, allEnergy}
-use Rattle.records.specs.Judging.{metersOf, sourceJudged, isThere, dropJudged, linesOf, allWithinLimits, plantJudged}
+use Rattle.records.specs.Heat.{fuelEnergy}
+use Rattle.records.specs.Judging.{metersOf, sourceJudged, isThere, dropJudged, linesOf, plantJudged}
 use Rattle.records.specs.Records.{noGrid, noPlant, noSource, gridRecord}
 use Rattle.report.specs.Heat.{linesMilligrams, exactLines, allocated, exactAllocated, electricityMilligrams, exactElectricity, heatedEnergy}
 use Rattle.report.specs.Intact.{allIntact}
@@ -125,7 +125,7 @@ zeros = totals 0 0 0
 
 -- The answers to a list of calls from a new ledger. `unfolding run` opens what they compute by.
 unfoldable pub run : List Call → List Reply
-unfolding answers step reply newLedger noGrid noPlant noSource answer checkedReportOf intact allIntact gridJudged linesOf allWithinLimits lineEnergy isEnergy fuelEnergy allEnergy plantJudged metersOf sourceJudged dropJudged withinLimits exactMilligrams roundedMilligrams judgedMeters judgedReadings allMeters anyMeter roundedAdding roundedTaking settledEnergy sum divided exactRegister isReadableRegister ofBits standing selected consumption linesMilligrams allocated electricityMilligrams heatedEnergy plantHeated plantMilligrams plantsAt siteOf sourceFigure figuresFrom ofSide sideReport reduction reportFrom reportOf roundedCombined margin gridDefault captiveJudged lowDefault chosen lossOf energyWithLosses gramsOf figureOf
+unfolding answers step reply newLedger noGrid noPlant noSource answer checkedReportOf intact allIntact gridJudged linesOf allLines lineEnergy isEnergy fuelEnergy plantJudged metersOf sourceJudged dropJudged withinLimits exactMilligrams roundedMilligrams judgedMeters judgedReadings allMeters anyMeter roundedAdding roundedTaking settledEnergy sum divided exactRegister isReadableRegister ofBits standing selected consumption linesMilligrams allocated electricityMilligrams heatedEnergy plantHeated plantMilligrams plantsAt siteOf sourceFigure figuresFrom ofSide sideReport reduction reportFrom reportOf roundedCombined margin gridDefault captiveJudged lowDefault chosen lossOf energyWithLosses gramsOf figureOf
 run calls = answers step reply newLedger calls
 
 -- What stands after a list of calls. `unfolding stands` opens what its exact values compute by.

@@ -1,13 +1,11 @@
 -- How an entry and a drop are judged, test by test in the order of the code, and what an answer says of it. Assumes nothing.
-use Prim.Native.Nat.{ℕ, _+_, _≤_, _<_}
+use Prim.Native.Nat.{ℕ, _≤_, _<_}
 use mathlib.Core.Path.{_≡_, refl, sym, ap, _∙_}
 use mathlib.Core.Bool.{Bool, true, false, not, _&&_, _||_}
 use mathlib.Core.List.{List, [], _∷_}
-use native.Mathlib.Numerals.{add-one}
 use native.Mathlib.Omega.{arith}
-use lib.Dec.{leb, ltb}
-use lib.ListN.{length, take, drop, getD, drop-of-length-le}
-use lib.Seq.{drop-cons, getD-take, length-take-le}
+use lib.Dec.{leb}
+use lib.ListN.{take}
 use borrow.Author.Tests.{le-leb, lt-leb, ltb-false}
 use Rattle.rounding.specs.Outcome.{Outcome, refused, given, refuseUnless}
 use Rattle.rounding.proofs.Outcomes.{given-is, test-held}
@@ -15,12 +13,12 @@ use Rattle.rounding.proofs.Tests.{and-both}
 use Rattle.metering.specs.Energy.{judgedMeters, settledEnergy}
 use Rattle.metering.specs.declared.MetersJudged.{MetersJudged}
 use Rattle.metering.specs.declared.EnergyJudged.{EnergyJudged}
-use Rattle.fuel.specs.Fuel.{withinLimits, isEnergy}
+use Rattle.fuel.specs.Fuel.{withinLimits, isEnergy, statesEnergy, allLines}
 use Rattle.fuel.specs.declared.FuelLine.{FuelLine}
 use Rattle.emissions.specs.Factor.{direction}
 use Rattle.emissions.specs.declared.Loss.{Loss}
 use Rattle.emissions.specs.declared.Loss.the-variants.{Nothing, Measured, Default20, Default3}
-use Rattle.records.specs.Heat.{hasHeat, fuelEnergy, allEnergy, allStated, heatJudged}
+use Rattle.records.specs.Heat.{hasHeat, fuelEnergy, allEnergy, heatJudged}
 use Rattle.records.specs.Judging.{linesOf, allWithinLimits, plantJudged, supplyWithinLimits, lossWithinLimits, isNothing, isSomething, lossMatches, onRead, onEnergy, kept, sourceJudged, answerOf}
 use Rattle.records.specs.declared.Answer.the-variants.{Accepted, Refused}
 use Rattle.records.specs.declared.HeatJudged.{HeatJudged}
@@ -43,35 +41,11 @@ pub was-given : {A : Type 0} (o : Outcome A) → answerOf o ≡ Accepted → (a 
 was-given (refused k) e = absurd (never-accepted (sym e))
 was-given (given a) e = (a, refl)
 
--- ---- a plant's lines
-
--- Line i and those after it, where i is one of the first n.
-pub lines-next : (ls : List FuelLine) (n i : ℕ) (d : FuelLine) → i < n → n ≤ length ls
-    → drop i (take n ls) ≡ getD ls i d ∷ drop (i + 1) (take n ls)
-lines-next ls n i d h k =
-    let m : i < length (take n ls) = rw (length-take-le n ls k) h in
-    rw (add-one, drop-cons (take n ls) i d m, getD-take n ls i d h)
-
-pub lines-none : (ls : List FuelLine) (n i : ℕ) → n ≤ i → n ≤ length ls → drop i (take n ls) ≡ []
-lines-none ls n i h k =
-    let m : length (take n ls) ≤ i = rw (length-take-le n ls k) h in
-    drop-of-length-le (take n ls) m
-
--- So with their limits.
-pub next-line : (ls : List FuelLine) (n i : ℕ) (d : FuelLine) (t : Bool) → i < n → n ≤ length ls → withinLimits (getD ls i d) ≡ t
-    → allWithinLimits (drop i (take n ls)) ≡ (t && allWithinLimits (drop (i + 1) (take n ls)))
-unfolding allWithinLimits
-next-line ls n i d t h k e = rw (lines-next ls n i d h k, e)
-
-pub no-line : (ls : List FuelLine) (n i : ℕ) → n ≤ i → n ≤ length ls → allWithinLimits (drop i (take n ls)) ≡ true
-unfolding allWithinLimits
-no-line ls n i h k = rw (lines-none ls n i h k)
-
 -- ---- a plant's heat
 
 -- Lines within their limits each state their energy exactly where no carbon line is among them.
-stated-energy : (ls : List FuelLine) → allWithinLimits ls ≡ true → allStated ls ≡ allEnergy ls
-unfolding allWithinLimits allStated allEnergy
+stated-energy : (ls : List FuelLine) → allWithinLimits ls ≡ true → allLines statesEnergy ls ≡ allEnergy ls
+unfolding allLines
 stated-energy [] h = refl
 stated-energy (l ∷ ls) h =
     let p = and-both (withinLimits l) _ h in
@@ -91,11 +65,11 @@ byHeat p heat.Nothing = given p
 byHeat p (heat.Refused n) = refused n
 byHeat p (heat.Within J) = given p
 
-pub heat-found : (p : Plant) → leb (p .count) 4 ≡ true → allWithinLimits (linesOf p) ≡ true
+heat-found : (p : Plant) → leb (p .count) 4 ≡ true → allWithinLimits (linesOf p) ≡ true
     → heatTested p ≡ byHeat p (heatJudged (p .heat) (p .count) (linesOf p))
 heat-found p c w = go (hasHeat (p .heat)) refl (allEnergy (linesOf p)) refl (leb (p .heat) (fuelEnergy (linesOf p))) refl
   where
-    same : (a : Bool) → allEnergy (linesOf p) ≡ a → allStated (linesOf p) ≡ a
+    same : (a : Bool) → allEnergy (linesOf p) ≡ a → allLines statesEnergy (linesOf p) ≡ a
     same a e = stated-energy (linesOf p) w ∙ e
 
     go : (h : Bool) → hasHeat (p .heat) ≡ h → (a : Bool) → allEnergy (linesOf p) ≡ a → (t : Bool) → leb (p .heat) (fuelEnergy (linesOf p)) ≡ t

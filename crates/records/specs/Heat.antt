@@ -1,10 +1,10 @@
 -- The heat that a plant also makes, and the energy of its fuel that it is a part of (document 02, wish 5).
 use Prim.Native.Nat.{ℕ}
-use mathlib.Core.Bool.{Bool, true, false, cond, _&&_}
-use mathlib.Core.List.{List, [], _∷_, map}
+use mathlib.Core.Bool.{Bool, cond, _&&_}
+use mathlib.Core.List.{List, map}
 use lib.Dec.{leb, ltb}
 use Rattle.rounding.specs.Divided.{sum}
-use Rattle.fuel.specs.Fuel.{withinLimits, isEnergy, lineEnergy}
+use Rattle.fuel.specs.Fuel.{isEnergy, lineEnergy, statesEnergy, allLines}
 use Rattle.fuel.specs.declared.FuelLine.{FuelLine}
 use Rattle.records.specs.declared.HeatJudged.{HeatJudged}
 use Rattle.records.specs.declared.HeatJudged.the-variants as heat
@@ -18,21 +18,13 @@ unfoldable pub fuelEnergy : List FuelLine → ℕ
 fuelEnergy ls = sum (map lineEnergy ls)
 
 -- No carbon line is among them.
-unfoldable pub allEnergy : List FuelLine → Bool
-allEnergy [] = true
-allEnergy (l ∷ ls) = isEnergy l && allEnergy ls
+abbrev pub allEnergy : List FuelLine → Bool
+allEnergy ls = allLines isEnergy ls
 
--- ---- what is judged of a plant's heat, line by line
-
--- Each line is by energy and within its limits.
-unfoldable pub allStated : List FuelLine → Bool
-allStated [] = true
-allStated (l ∷ ls) = isEnergy l && withinLimits l && allStated ls
-
--- That there is none; 16 where a line states no energy; 17 where it is above J; and else J. Lines that number 2 refuses state none, so that no sum
+-- What is judged of a plant's heat: that there is none; 16 where a line states no energy; 17 where it is above J; and else J. Lines that number 2 refuses state none, so that no sum
 -- wraps: an entry that has passed 2 has at most four lines, each within its limits.
 abbrev pub heatWithin : ℕ → ℕ → HeatJudged
 heatWithin H J = cond (leb H J) (heat.Within J) (heat.Refused 17)
 
 abbrev pub heatJudged : ℕ → ℕ → List FuelLine → HeatJudged
-heatJudged H count ls = cond (hasHeat H) (cond (leb count 4 && allStated ls) (heatWithin H (fuelEnergy ls)) (heat.Refused 16)) heat.Nothing
+heatJudged H count ls = cond (hasHeat H) (cond (leb count 4 && allLines statesEnergy ls) (heatWithin H (fuelEnergy ls)) (heat.Refused 16)) heat.Nothing

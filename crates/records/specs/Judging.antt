@@ -1,8 +1,8 @@
 -- When an entry of a plant or a source or a drop is refused, and with which number (document 01, "How each operation declines";
--- document 02, wishes 4 and 5).
+-- document 02, wish 5).
 use Prim.Native.Nat.{ℕ}
 use mathlib.Core.Bool.{Bool, true, false, not, _&&_, _||_}
-use mathlib.Core.List.{List, [], _∷_}
+use mathlib.Core.List.{List}
 use mathlib.Core.Option.{Option, none, some}
 use lib.Dec.{leb}
 use lib.ListN.{take}
@@ -13,7 +13,7 @@ use Rattle.metering.specs.declared.MetersJudged.{MetersJudged}
 use Rattle.metering.specs.declared.MetersJudged.the-variants as metersJudged
 use Rattle.metering.specs.declared.EnergyJudged.{EnergyJudged}
 use Rattle.metering.specs.declared.EnergyJudged.the-variants as energyJudged
-use Rattle.fuel.specs.Fuel.{withinLimits}
+use Rattle.fuel.specs.Fuel.{withinLimits, allLines}
 use Rattle.fuel.specs.declared.FuelLine.{FuelLine}
 use Rattle.emissions.specs.Factor.{direction}
 use Rattle.emissions.specs.Figure.{lossLimit}
@@ -51,9 +51,8 @@ generationLimit = 100000000
 unfoldable pub linesOf : Plant → List FuelLine
 linesOf p = take (p .count) (p .lines)
 
-unfoldable pub allWithinLimits : List FuelLine → Bool
-allWithinLimits [] = true
-allWithinLimits (l ∷ ls) = withinLimits l && allWithinLimits ls
+abbrev pub allWithinLimits : List FuelLine → Bool
+allWithinLimits ls = allLines withinLimits ls
 
 -- "Heat above 0 beside a carbon line is refused 16, then heat above J is refused 17, both after 2."
 unfoldable pub plantJudged : ℕ → Plant → Outcome Plant

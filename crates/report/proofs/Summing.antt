@@ -10,7 +10,7 @@ use native.Mathlib.Numerals.{add-one}
 use native.Mathlib.Omega.{arith}
 use native.Mathlib.Nat.{eq-or-lt-of-le}
 use lib.Dec.{leb, eqb}
-use lib.ListN.{length, getD, set, take, drop}
+use lib.ListN.{length, getD, set}
 use lib.Seq.{getD-set-same, getD-set-other}
 use borrow.Author.Tests.{leb-true, lt-ltb, eqb-true, eqb-false}
 use Rattle.rounding.specs.Divided.{sum}
@@ -18,10 +18,7 @@ use Rattle.rounding.specs.declared.Direction.{Direction}
 use Rattle.rounding.specs.declared.Direction.the-variants.{Up, Down}
 use Rattle.rounding.proofs.Tests.{and-both, lt-or-ge}
 use Rattle.metering.specs.Reading.{limit}
-use Rattle.fuel.specs.Fuel.{roundedMilligrams, lineMilligrams}
-use Rattle.fuel.proofs.Fuel.{line-gave, line-bound}
 use Rattle.fuel.specs.declared.FuelLine.{FuelLine}
-use Rattle.rounding.specs.Outcome.{given}
 use Rattle.emissions.specs.Factor.{direction}
 use Rattle.emissions.specs.declared.Consumption.{Consumption}
 use Rattle.emissions.specs.declared.Side.{Side}
@@ -31,7 +28,7 @@ use Rattle.records.specs.Heat.{heatJudged}
 use Rattle.records.specs.Judging.{lastSite, linesOf, allWithinLimits, plantJudged, supplyWithinLimits, lossWithinLimits, lossMatches}
 use Rattle.records.specs.Records.{noPlant, heldPlant, plantIn, plantPlace, sourcePlace}
 use Rattle.records.proofs.Heat.{heat-none, heat-within}
-use Rattle.records.proofs.Judged.{lines-next, lines-none, byHeat, plant-site, plant-heat}
+use Rattle.records.proofs.Judged.{byHeat, plant-site, plant-heat}
 use Rattle.report.specs.Heat.{linesMilligrams, allocated, electricityMilligrams}
 use Rattle.report.specs.Intact.{isGiven, plantIntact, sourceIntact, allIntact, sourcesIntact}
 use Rattle.report.specs.Steps.{ofDirection, share, summed, ConsumptionWithin, withShare, totalsOf, totalsSummed, linesSummed, electricityBy, electricityOf, plantSums, plantSummed, noPlants, sitePlus, SiteWithin, siteSums}
@@ -146,31 +143,6 @@ pub totals-damaged : (sources : List SourceRecord) → totalsCase.Damaged ≡ to
 totals-damaged sources e = chosen-second (sourcesIntact sources) (totalsCase.Summed (totalsOf (sourcePlace sources))) totalsCase.Damaged totalsCase.Damaged (λ k. let z : _≡_ {A = ℕ} 0 1 = cc in omega arith) e
 
 -- ---- a plant's lines
-
--- The milligrams of the lines before line i: with those of the others they come to those of all.
-pub record LinesBefore (dir : Direction) (ls : List FuelLine) (n i before : ℕ) : Type 0 where
-  pub whole : before + linesMilligrams dir (drop i (take n ls)) ≡ linesMilligrams dir (take n ls)
-  pub bound : before ≤ i * 3000000000000000
-
-module _ (dir : Direction) (ls : List FuelLine) (n : ℕ) where
-  pub lines-start : LinesBefore dir ls n 0 0
-  lines-start = record { whole = omega arith; bound = zero-le }
-
-  module _ (i s : ℕ) (room : n ≤ length ls) (before : LinesBefore dir ls n i s) where
-    pub lines-turn : (d : FuelLine) (w : ℕ) → i < n → lineMilligrams dir (getD ls i d) ≡ given w → LinesBefore dir ls n (i + 1) (s + w)
-    unfolding linesMilligrams sum
-    lines-turn d w h e =
-        let g = line-gave dir (getD ls i d) w e in
-        record {
-          whole = omega (arith, g .1, ap (λ (xs : List FuelLine). sum (map (roundedMilligrams dir) xs)) (lines-next ls n i d h room), before .whole);
-          bound = omega (arith, g .1, line-bound dir (getD ls i d) (g .0), before .bound);
-        }
-
-    pub lines-end : n ≤ i → s ≡ linesMilligrams dir (take n ls)
-    unfolding linesMilligrams sum
-    lines-end h =
-        let none-left : linesMilligrams dir (drop i (take n ls)) ≡ 0 = rw (lines-none ls n i h room) in
-        omega (arith, none-left, before .whole)
 
 -- What is summed up says whether all are within their limits.
 pub lines-gave : (ls : List FuelLine) (s : LineSums) → linesCase.Summed s ≡ linesSummed ls

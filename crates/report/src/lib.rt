@@ -338,8 +338,8 @@ impl SiteSums {
     }
 }
 
-// The milligrams of fuel lines, each rounded both ways. A line that is refused is out of its limits, so that each
-// line is tested once, here.
+// The milligrams of fuel lines, each rounded both ways. A line that is refused is out of its limits, so that no
+// other pass has to test them.
 fn lines_summed(lines: [FuelLine; Plant::LINE_PLACES], count: usize) -> LinesSummed
     requires { ⌜ count ≤ linesLimit ⌝ }
     ensures summed { λ r. ⌜ r ≡ linesSummed (take count lines) ⌝ }

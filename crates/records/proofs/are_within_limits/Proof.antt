@@ -6,7 +6,8 @@ use Prim.Native.Nat.{_+_, _-_, _≤_, zero-le}
 use native.Mathlib.Nat.{le-of-eq, le-trans}
 use lib.ListN.{length, take, drop}
 use Rattle.records.specs.Judging.{allWithinLimits}
-use Rattle.records.proofs.Judged.{next-line, no-line}
+use Rattle.fuel.specs.Fuel.{withinLimits}
+use Rattle.records.proofs.Lines.{next-line, no-line}
 use Rattle.records.proofs.are_within_limits.Statement.{statement}
 use Rattle.records.proofs.are_within_limits.Tie as tie
 
@@ -28,7 +29,7 @@ turn : (c : tie.After-is-within-limits Inv-loop μ-loop) (t : Bool) → c .is-wi
 turn c t e =
     let b = c .before .before .before in
     let a = b .before .args in
-    sym (next-line (a .t1) (a .count) (b .loop .i) _ t (c .before .before .loop-test .taken) (room (b .before))
+    sym (next-line withinLimits (a .t1) (a .count) (b .loop .i) _ t (c .before .before .loop-test .taken) (room (b .before))
     (sym (c .is-within-limits .ensures) ∙ e))
     ∙ b .loop .inv .1
 
@@ -60,7 +61,7 @@ returns-2 : tie.Need-returns-2 Inv-loop μ-loop
 returns-2 c =
     let b = c .before in
     let a = b .before .args in
-    sym (no-line (a .t1) (a .count) (b .loop .i) (c .loop-test .left) (room (b .before))) ∙ b .loop .inv .1
+    sym (no-line withinLimits (a .t1) (a .count) (b .loop .i) (c .loop-test .left) (room (b .before))) ∙ b .loop .inv .1
 
 pub are-within-limits-spec : {M : Type 1} → statement M
 are-within-limits-spec =

@@ -6,20 +6,25 @@ use mathlib.Core.Bool.{Bool, true, false, _&&_}
 use Prim.Native.Nat.{ℕ, _+_, _-_, _≤_, zero-le}
 use native.Mathlib.Nat.{le-of-eq, le-trans}
 use native.Mathlib.Omega.{arith}
+use mathlib.Core.List.{List}
 use lib.ListN.{length, getD, take, drop}
 use Rattle.rounding.specs.Outcome.{refused, given}
 use Rattle.rounding.specs.declared.Direction.{Direction}
 use Rattle.rounding.specs.declared.Direction.the-variants.{Up, Down}
-use Rattle.fuel.specs.Fuel.{noLine, withinLimits, lineMilligrams, milligramsMeaning}
+use Rattle.fuel.specs.Fuel.{noLine, withinLimits, roundedMilligrams, lineMilligrams, milligramsMeaning}
 use Rattle.fuel.specs.declared.FuelLine.{FuelLine}
-use Rattle.fuel.proofs.Fuel.{line-gave, line-beyond}
+use Rattle.fuel.proofs.Fuel.{line-gave, line-beyond, line-bound}
 use Rattle.records.specs.Judging.{allWithinLimits}
-use Rattle.records.proofs.Judged.{next-line, no-line}
+use Rattle.records.proofs.Lines.{next-line, no-line, SumBefore, sum-start, sum-turn, sum-end}
+use Rattle.report.specs.Heat.{linesMilligrams}
 use Rattle.report.specs.Steps.{linesSummed}
 use Rattle.report.specs.declared.LinesSummed.the-variants.{Damaged}
-use Rattle.report.proofs.Summing.{LinesBefore, lines-start, lines-turn, lines-end}
 use Rattle.report.proofs.lines_summed.Statement.{statement}
 use Rattle.report.proofs.lines_summed.Tie as tie
+
+-- The milligrams of the lines before line i, at most 3,000,000,000,000,000 mg a line.
+abbrev LinesBefore : Direction → List FuelLine → ℕ → ℕ → ℕ → Type 0
+LinesBefore dir ls n i total = SumBefore (roundedMilligrams dir) 3000000000000000 ls n i total
 
 abbrev Inv-loop : tie.InvT-loop
 Inv-loop count lines up₀ down₀ i₀ up down i =
@@ -44,7 +49,7 @@ turn : (c : tie.In-loop Inv-loop μ-loop) (t : Bool) → withinLimits (line c) �
     (t && allWithinLimits (drop (c .before .loop .i + 1) (take (a .count) (a .t1)))) ≡ allWithinLimits (take (a .count) (a .t1))
 turn c t e =
     let a = c .before .before .args in
-    sym (next-line (a .t1) (a .count) (c .before .loop .i) noLine t (c .loop-test .taken) (room (c .before .before)) e) ∙ c .before .loop .inv .3
+    sym (next-line withinLimits (a .t1) (a .count) (c .before .loop .i) noLine t (c .loop-test .taken) (room (c .before .before)) e) ∙ c .before .loop .inv .3
 
 damaged : (c : tie.In-loop Inv-loop μ-loop) (dir : Direction) → lineMilligrams dir (line c) ≡ refused 2
     → let a = c .before .before .args in
@@ -71,11 +76,15 @@ summed-on : (c : tie.In-loop Inv-loop μ-loop) (dir : Direction) (s w : ℕ)
     → LinesBefore dir (a .t1) (a .count) (c .before .loop .i + 1) (s + w)
 summed-on c dir s w h e =
     let a = c .before .before .args in
-    lines-turn dir (a .t1) (a .count) (c .before .loop .i) s (room (c .before .before)) h noLine w (c .loop-test .taken) e
+    let g = line-gave dir (line c) w e in
+    sum-turn (roundedMilligrams dir) 3000000000000000 (a .t1) (a .count) (c .before .loop .i) s (room (c .before .before)) h noLine w
+    (c .loop-test .taken) (g .1) (omega (arith, g .1, line-bound dir (line c) (g .0)))
 
 loop-holds : tie.Need-loop-holds Inv-loop μ-loop
 loop-holds c =
-    (zero-le, lines-start Up (c .args .t1) (c .args .count), lines-start Down (c .args .t1) (c .args .count), refl)
+    let start : (dir : Direction) → LinesBefore dir (c .args .t1) (c .args .count) 0 0 =
+    λ dir. sum-start (roundedMilligrams dir) 3000000000000000 (c .args .t1) (c .args .count) in
+    (zero-le, start Up, start Down, refl)
 
 mul-line : tie.Need-mul-line Inv-loop μ-loop
 mul-line c = search needs
@@ -135,6 +144,7 @@ loop-again c =
     )
 
 returns-3 : tie.Need-returns-3 Inv-loop μ-loop
+unfolding linesMilligrams
 returns-3 c =
     let b = c .before in
     let a = b .before .args in
@@ -144,9 +154,9 @@ returns-3 c =
     let r = room (b .before) in
     let n = b .before .pre in (
       rw (
-        sym (k .3) ∙ no-line (a .t1) (a .count) i h r,
-        lines-end Up (a .t1) (a .count) i _ r (k .1) h,
-        lines-end Down (a .t1) (a .count) i _ r (k .2) h,
+        sym (k .3) ∙ no-line withinLimits (a .t1) (a .count) i h r,
+        sum-end (roundedMilligrams Up) 3000000000000000 (a .t1) (a .count) i _ r (k .1) h,
+        sum-end (roundedMilligrams Down) 3000000000000000 (a .t1) (a .count) i _ r (k .2) h,
       ),
       (omega (arith, n, k .0, k .1 .bound), omega (arith, n, k .0, k .2 .bound)),
     )

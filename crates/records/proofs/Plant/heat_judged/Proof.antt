@@ -9,19 +9,22 @@ use Prim.Native.Nat.{_+_, _-_, _≤_, _<_, zero-le}
 use native.Mathlib.Nat.{le-of-eq, le-trans, pos-of-ne-zero}
 use native.Mathlib.Omega.{arith}
 use lib.ListN.{length, getD, take, drop, length-map}
-use Rattle.fuel.specs.Fuel.{noLine, withinLimits, isEnergy, statedEnergy, energyMeaning}
+use Rattle.fuel.specs.Fuel.{noLine, isEnergy, lineEnergy, statesEnergy, statedEnergy, energyMeaning, allLines}
 use Rattle.fuel.specs.declared.FuelLine.{FuelLine}
-use Rattle.fuel.proofs.Fuel.{energy-stated, energy-not-stated}
-use Rattle.records.specs.Heat.{allStated, fuelEnergy}
+use Rattle.fuel.proofs.Fuel.{line-energy-bound, energy-stated, energy-not-stated}
+use Rattle.rounding.proofs.Tests.{and-both}
+use Rattle.records.specs.Heat.{fuelEnergy}
 use Rattle.records.specs.Judging.{linesOf}
 use Rattle.records.specs.declared.Plant.{Plant}
-use Rattle.records.proofs.Heat.{next-stated, no-line-stated, EnergyBefore, energy-start, energy-turn, energy-end}
+use Rattle.records.proofs.Lines.{next-line, no-line, SumBefore, sum-start, sum-turn, sum-end}
 use Rattle.records.proofs.Plant.heat_judged.Statement.{statement}
 use Rattle.records.proofs.Plant.heat_judged.Tie as tie
 
 abbrev Inv-loop : tie.InvT-loop
 Inv-loop plant lines count total₀ i₀ total i =
-    (i ≤ count) × EnergyBefore lines count i total × (allStated (drop i (take count lines)) ≡ allStated (take count lines))
+    (i ≤ count)
+    × SumBefore lineEnergy 15000000000000 lines count i total
+    × (allLines statesEnergy (drop i (take count lines)) ≡ allLines statesEnergy (take count lines))
 
 abbrev μ-loop : tie.MeasureT-loop
 μ-loop plant lines count total₀ i₀ total i = count - i
@@ -42,12 +45,12 @@ room c =
 abbrev line : tie.In-loop Inv-loop μ-loop → FuelLine
 line c = getD (plant (c .before .before .before .before) .lines) (c .before .loop .i) noLine
 
-turn : (c : tie.In-loop Inv-loop μ-loop) (t : Bool) → (isEnergy (line c) && withinLimits (line c)) ≡ t
+turn : (c : tie.In-loop Inv-loop μ-loop) (t : Bool) → statesEnergy (line c) ≡ t
     → let p = plant (c .before .before .before .before) in
-    (t && allStated (drop (c .before .loop .i + 1) (take (p .count) (p .lines)))) ≡ allStated (take (p .count) (p .lines))
+    (t && allLines statesEnergy (drop (c .before .loop .i + 1) (take (p .count) (p .lines)))) ≡ allLines statesEnergy (take (p .count) (p .lines))
 turn c t e =
     let b = c .before .before .before .before in
-    sym (next-stated (plant b .lines) (plant b .count) (c .before .loop .i) noLine t (c .loop-test .taken) (room b) e) ∙ c .before .loop .inv .2
+    sym (next-line statesEnergy (plant b .lines) (plant b .count) (c .before .loop .i) noLine t (c .loop-test .taken) (room b) e) ∙ c .before .loop .inv .2
 
 -- What it stated, and what is summed up after it.
 stated : (c : tie.After-known-told Inv-loop μ-loop) → statedEnergy (line (c .before .before .before .before .before)) ≡ some (c .before .energy2 .given .0 .0)
@@ -56,23 +59,27 @@ stated c = sym (c .before .before .before .energy .ensures) ∙ ap energyMeaning
 summed-on : (c : tie.After-known-told Inv-loop μ-loop)
     → let b = c .before .before .before .before .before in
     let p = plant (b .before .before .before .before) in
-    EnergyBefore (p .lines) (p .count) (b .before .loop .i + 1) (b .before .loop .total + c .before .energy2 .given .0 .0)
+    SumBefore lineEnergy 15000000000000 (p .lines) (p .count) (b .before .loop .i + 1) (b .before .loop .total + c .before .energy2 .given .0 .0)
 summed-on c =
     let b = c .before .before .before .before .before in
     let e = b .before .before .before .before in
-    energy-turn (plant e .lines) (plant e .count) (b .before .loop .i) _ (room e) (b .before .loop .inv .1) noLine _ (b .loop-test .taken) (stated c)
+    let g = energy-stated (line b) _ (stated c) in
+    let fits = and-both (isEnergy (line b)) _ (g .0) .1 in
+    sum-turn lineEnergy 15000000000000 (plant e .lines) (plant e .count) (b .before .loop .i) _ (room e) (b .before .loop .inv .1) noLine _
+    (b .loop-test .taken) (g .1) (omega (arith, g .1, line-energy-bound (line b) fits))
 
 -- All lines stated their energy, and this is what they come to.
 all-stated : (c : tie.After-loop Inv-loop μ-loop)
     → let p = plant (c .before .before .before .before) in
-    (allStated (take (p .count) (p .lines)) ≡ true) × (c .before .loop .total ≡ fuelEnergy (take (p .count) (p .lines)))
+    (allLines statesEnergy (take (p .count) (p .lines)) ≡ true) × (c .before .loop .total ≡ fuelEnergy (take (p .count) (p .lines)))
+unfolding fuelEnergy
 all-stated c =
     let l = c .before in
     let b = l .before .before .before in
     let p = plant b in
     let h = c .loop-test .left in (
-      sym (l .loop .inv .2) ∙ no-line-stated (p .lines) (p .count) (l .loop .i) h (room b),
-      energy-end (p .lines) (p .count) (l .loop .i) _ (room b) (l .loop .inv .1) h,
+      sym (l .loop .inv .2) ∙ no-line statesEnergy (p .lines) (p .count) (l .loop .i) h (room b),
+      sum-end lineEnergy 15000000000000 (p .lines) (p .count) (l .loop .i) _ (room b) (l .loop .inv .1) h,
     )
 
 returns : tie.Need-returns Inv-loop μ-loop
@@ -87,7 +94,7 @@ cast-count c = search needs
 loop-holds : tie.Need-loop-holds Inv-loop μ-loop
 loop-holds c =
     let p = plant (c .before .before) in
-    (zero-le, energy-start (p .lines) (p .count), refl)
+    (zero-le, sum-start lineEnergy 15000000000000 (p .lines) (p .count), refl)
 
 mul-line : tie.Need-mul-line Inv-loop μ-loop
 mul-line c = search needs
