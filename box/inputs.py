@@ -2,7 +2,7 @@
 
     inputs.py FOLDER
 
-They are document 01's listing, the example, the inputs made by hand of tests/generate.py, with the
+They are document 01's listing, the example, the inputs made by hand of tests/comparison/generate.py, with the
 edge cases of lines among them, lines of other lengths, 50 random inputs by seed, and a full ledger
 with a report.
 """
@@ -11,8 +11,8 @@ import sys
 from pathlib import Path
 
 ROOT = Path(__file__).resolve().parent.parent
-sys.path.insert(0, str(ROOT / 'tests'))
-import generate  # noqa: E402
+sys.path.insert(0, str(ROOT))
+from tests.comparison import generate  # noqa: E402
 
 SEEDS = range(7_000, 7_050)
 LINES = 300  # of a random input, so that many records stand

@@ -1,6 +1,6 @@
 // The program tally in plain C, as a programmer would write it by hand from document 01 and wishes 1 to 5
 // of document 02: no proofs. The speed of tally is measured beside it, and its branches guide the fuzzer. It
-// is no third opinion on the rules: its author had read tests/reference.py, so the two may share a
+// is no third opinion on the rules: its author had read tests/reference/reference.py, so the two may share a
 // misreading. Comments in quotation marks are the papers' sentences; a bare number is a refusal.
 #include <stdbool.h>
 #include <stddef.h>

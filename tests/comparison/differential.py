@@ -1,11 +1,12 @@
 """Runs inputs through tally, panel and the reference, and compares every byte.
 
-    differential.py                 2,000 random inputs by seed, and inputs made by hand
-    differential.py --lines 100000  so many lines at random, of other seeds, in inputs
-                                    of 60 and of 1,000 lines by turns
-    differential.py --seed SEED     the random input of one seed
-    differential.py --inputs DIR    each file of a folder
-    differential.py --self-test     slips made in measure/plain_tally.c must each be found
+    python3 -m tests.comparison.differential
+                     2,000 random inputs by seed, and inputs made by hand
+    --lines 100000   so many lines at random, of other seeds, in inputs of 60 and of 1,000
+                     lines by turns
+    --seed SEED      the random input of one seed
+    --inputs DIR     each file of a folder
+    --self-test      slips made in measure/plain_tally.c must each be found
 
 Both programs get the same inputs. They differ in two things: of an input above 65,536
 bytes panel answers each line, and it answers a line before the next one comes.
@@ -35,11 +36,10 @@ from collections.abc import Callable
 from pathlib import Path
 from typing import BinaryIO, NamedTuple
 
-import generate
-import reference
-import slips
+from tests.comparison import generate, slips
+from tests.reference import reference
 
-ROOT = Path(__file__).resolve().parent.parent
+ROOT = Path(__file__).resolve().parents[2]
 PROGRAMS = (ROOT / 'target/bin/tally', ROOT / 'target/bin/panel')
 EXAMPLE = ROOT / 'examples/site.txt'
 

@@ -5,7 +5,7 @@ AFL++ calls init first, fuzz for each input that it wants made, and deinit last.
 
 import random
 
-import generate
+from tests.comparison import generate
 
 NUMBERS = (0, 1, *generate.WIDE, *(value for _, limit in generate.FIELDS
                                    for value in generate.around(limit)))

@@ -3,7 +3,7 @@
 # fails or the program cannot be built.
 # Prints each failure and, last, 'N passed, M failed'.
 set -u
-cd "$(dirname "$0")/.." || exit 1
+cd "$(dirname "$0")/../.." || exit 1
 room=$(mktemp -d) || exit 1
 trap 'rm -rf "$room"' EXIT
 export room

@@ -2,7 +2,7 @@
 # Tests that the gate fails where a part of it fails, and that no check in Python can be switched off.
 # Prints each failure and, last, 'N passed, M failed'.
 set -u
-cd "$(dirname "$0")/.." || exit 1
+cd "$(dirname "$0")/../.." || exit 1
 . .ci/part || exit 1
 right=0
 wrong=0
@@ -22,7 +22,7 @@ adds() {
 }
 
 no_assert() {
-    ! grep -nE '^\s*assert\b' tests/*.py box/*.py measure/speed
+    ! grep -nE '^\s*assert\b' tests/*/*.py box/*.py measure/speed
 }
 
 ends 'a part that passes' adds 5 0 'echo 5 passed, 0 failed'

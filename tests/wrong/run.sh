@@ -1,14 +1,14 @@
 #!/usr/bin/env bash
-# Tries the wrong programs that the gate does not:  bash tests/wrong.sh [CRATE..]
+# Tries the wrong programs that the gate does not:  bash tests/wrong/run.sh [CRATE..]
 #
 # Each edit of tests/wrong/CRATE/ makes the crate another program, or has it promise what another program
 # does, and the prover must refuse it. rt must-fail tries them in a copy of the repository, in place of the
 # gate's edits. What the prover said of each is left in target/wrong/CRATE/LABEL/.log.
 # The last line is 'N passed, M failed'.
 set -u
-cd "$(dirname "$0")/.." || exit 1
+cd "$(dirname "$0")/../.." || exit 1
 PATH="$PATH:/opt/rattle/bin"
-crates=${*:-$(ls tests/wrong)}
+crates=${*:-$(cd tests/wrong && ls -d */ | tr -d /)}
 
 copy=$(mktemp -d)
 trap 'rm -rf "$copy"' EXIT

@@ -8,8 +8,8 @@ import bisect
 import sys
 from typing import NamedTuple
 
-import reference
-from reference import DEMAND_3, Broken
+from tests.reference import reference
+from tests.reference.reference import DEMAND_3, Broken
 
 
 class Case(NamedTuple):

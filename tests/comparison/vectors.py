@@ -1,9 +1,10 @@
 """The vectors that the program `vectors` runs, with the answers of the reference.
 
-    vectors.py          writes crates/vectors/stdin and stdout
-    vectors.py --check  compares these two files with what it would write, byte for
-                        byte, and counts them; that the program answers stdin by
-                        stdout is for `rt check` to see, which runs it
+    python3 -m tests.comparison.vectors
+              writes crates/vectors/stdin and stdout
+    --check   compares these two files with what it would write, byte for byte, and counts
+              them; that the program answers stdin by stdout is for `rt check` to see, which
+              runs it
 
 A vector is a line of stdin and its answer in stdout, a line or more. Its fields
 are numbers of 64 bits, each written as 16 hexadecimal digits. The first one is
@@ -18,13 +19,14 @@ from itertools import permutations, product
 from pathlib import Path
 from typing import NamedTuple
 
-from counterexamples import register_above
-from generate import FUEL_LIMITS, RATIO_LIMIT, last_register
-from ledger_vectors import LAST_U16, UNREAD, call_vectors, fuel_fields, meter_fields
-import reference
-from reference import EnergyLine, FuelLine, MassLine, Meter, VolumeLine
+from tests.cases.counterexamples import register_above
+from tests.comparison.generate import FUEL_LIMITS, RATIO_LIMIT, last_register
+from tests.comparison.ledger_vectors import (
+    LAST_U16, UNREAD, call_vectors, fuel_fields, meter_fields)
+from tests.reference import reference
+from tests.reference.reference import EnergyLine, FuelLine, MassLine, Meter, VolumeLine
 
-ROOT = Path(__file__).resolve().parent.parent
+ROOT = Path(__file__).resolve().parents[2]
 
 LAST_U32 = 2**32 - 1
 LAST_U64 = 2**64 - 1

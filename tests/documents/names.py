@@ -1,15 +1,16 @@
 """Looks up each name that the documents cite: what they say is proved or refused has to exist.
 
-    names.py    README.md, docs/*.md and box/README.md
+    python3 -m tests.documents.names    README.md, docs/, box/README.md and tests/wrong/README.md
 
 A name is a word in `code` quotes. What looks like a path is a file or a folder, a must-fail edit
-(CRATE/LABEL) or a file of definitions or laws (CRATE/specs/FILE); any other name has to stand in the code,
-the definitions, the laws or the firmware and its test, comments left out, or to be an edit's. Words of the text form, commands and
-formulas are passed over: they are one letter or have a space, a bracket or another sign that no name has.
+(CRATE/LABEL) or a file of definitions or laws (CRATE/specs/FILE); any other name has to stand in
+the code, the definitions, the laws or the firmware and its test, comments left out, or to be an
+edit's. Words of the text form, commands and formulas are passed over: they are one letter or have
+a space, a bracket or another sign that no name has.
 
-The tables of docs/PROVED.md name edits with marks: (t) for one of tests/wrong, (d) for one of a definition,
-(c) for one of a contract. Each edit has to be where and what its marks say, and each edit that there is
-has to be named in a row of its crate.
+The tables of docs/PROVED.md and tests/wrong/README.md name edits with marks: (t) for one of
+tests/wrong, (d) for one of a definition, (c) for one of a contract. Each edit has to be where and
+what its marks say, and each edit that there is has to be named in a row of its crate.
 
 Prints what is wrong, and last `N passed, M failed`.
 """
@@ -18,8 +19,9 @@ import re
 import sys
 from pathlib import Path
 
-ROOT = Path(__file__).resolve().parent.parent
-DOCUMENTS = [ROOT / 'README.md', *sorted((ROOT / 'docs').glob('*.md')), ROOT / 'box/README.md']
+ROOT = Path(__file__).resolve().parents[2]
+WRONG = ROOT / 'tests/wrong/README.md'
+DOCUMENTS = [ROOT / 'README.md', *sorted((ROOT / 'docs').rglob('*.md')), ROOT / 'box/README.md', WRONG]
 CODED = re.compile(r'`([^`\n]+)`')
 NAME = re.compile(r"[A-Za-z_][\w'ᵣ·-]+(?:(?:::|\.|/)[A-Za-z_*][\w'*-]*)*(?:\.\.)?")
 # The rows of the tables that name edits.
@@ -85,10 +87,11 @@ def marks_of(path: Path) -> set[str]:
 
 
 def named_edits() -> list[tuple[str, str, set[str]]]:
-    """Crate, label and marks of each edit that a table of docs/PROVED.md names."""
-    text = (ROOT / 'docs/PROVED.md').read_text(encoding='utf-8')
+    """Crate, label and marks of each edit that a table names."""
+    tables = [table for path in (ROOT / 'docs/PROVED.md', WRONG)
+              for table in EDIT_TABLES.findall(path.read_text(encoding='utf-8'))]
     named = []
-    for row in ''.join(EDIT_TABLES.findall(text)).splitlines():
+    for row in ''.join(tables).splitlines():
         first, *_, last = row.strip('| ').split(' | ')
         crate = re.match(r'\w+', first).group()
         for name, marks in MARKED.findall(last):
@@ -104,10 +107,10 @@ def wrong_edits(made: dict[str, Path]) -> tuple[int, list[str]]:
         key = f'{"(t)" if "t" in marks else ""}{crate}/{label}'
         met.add(key)
         if key not in made:
-            wrong.append(f'docs/PROVED.md: there is no edit {key}')
+            wrong.append(f'there is no edit {key}')
         elif marks_of(made[key]) != marks - {'t'}:
-            wrong.append(f'docs/PROVED.md: {key} is marked {sorted(marks - {"t"})}')
-    wrong += [f'docs/PROVED.md does not name the edit {key}' for key in sorted(made.keys() - met)]
+            wrong.append(f'{key} is marked {sorted(marks - {"t"})}')
+    wrong += [f'no table names the edit {key}' for key in sorted(made.keys() - met)]
     return len(named) + len(made), wrong
 
 

@@ -21,20 +21,17 @@ reading. The widest call is a source entry, with 27.
 from collections import Counter
 from itertools import cycle, product
 
-import heat
-import ratios
-import reference
-import sites
-from generate import (DECIDING_LINES, EQUAL_ENERGIES, EQUAL_RATIOS, FIRST_WEIGHTS,
-                      FRACTIONS_BY_RATIO, FUEL_LIMITS, HEAT_CASES, HEAT_STEPS, LARGEST_FACTORS,
-                      LARGEST_LINES, LAST_REGISTER, LITTLE_ABOVE, LITTLE_BELOW,
-                      PARTS_OF_MILLIGRAMS, RATIO_CASES, RATIO_LIMIT, REFUSED_ASIDE, SOURCE_KINDS,
-                      SOURCE_MEANS, SOURCES_BY_HEAT, SPECIAL_REGISTERS, SUPPLIES, UNNAMED,
-                      captive_factors, deciding_lines, fractions_by_ratio, heat_cases, heat_steps,
-                      kinds_of, last_register, means_of, meters_of, ratio_cases, refused_aside,
-                      sources_by_heat, with_rest)
-from reference import (SIDES, EnergyLine, FuelLine, Loss, Margins, MassLine, Meter, Plant, Source,
-                       Supply, VolumeLine)
+from tests.cases import heat, ratios, sites
+from tests.comparison.generate import (
+    DECIDING_LINES, EQUAL_ENERGIES, EQUAL_RATIOS, FIRST_WEIGHTS, FRACTIONS_BY_RATIO, FUEL_LIMITS,
+    HEAT_CASES, HEAT_STEPS, LARGEST_FACTORS, LARGEST_LINES, LAST_REGISTER, LITTLE_ABOVE,
+    LITTLE_BELOW, PARTS_OF_MILLIGRAMS, RATIO_CASES, RATIO_LIMIT, REFUSED_ASIDE, SOURCE_KINDS,
+    SOURCE_MEANS, SOURCES_BY_HEAT, SPECIAL_REGISTERS, SUPPLIES, UNNAMED, captive_factors,
+    deciding_lines, fractions_by_ratio, heat_cases, heat_steps, kinds_of, last_register, means_of,
+    meters_of, ratio_cases, refused_aside, sources_by_heat, with_rest)
+from tests.reference import reference
+from tests.reference.reference import (
+    SIDES, EnergyLine, FuelLine, Loss, Margins, MassLine, Meter, Plant, Source, Supply, VolumeLine)
 
 FIELDS = 28
 (NEW, GRID, PLANT, SOURCE, DROP_PLANT, DROP_SOURCE, REPORT,

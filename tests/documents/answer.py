@@ -1,9 +1,9 @@
 """Writes docs/ANSWER.md: which of two totals counts, and how a manager knows that it is safe.
 
-    answer.py              writes the page
-    answer.py --check      compares the page with what would be written, and looks up the laws
-                           that it names; changes nothing
-    answer.py --self-test  breaks one rounding after the other; each must be refused at its row
+    python3 -m tests.documents.answer    writes the page
+    --check       compares the page with what would be written, and looks up the laws that it
+                  names; changes nothing
+    --self-test   breaks one rounding after the other; each must be refused at its row
 
 The page follows the first report of examples/site.txt from meter to tonnes with exact fractions.
 Every number on it is computed. Each figure must lean to the safe side, by at least 0 and by less
@@ -20,13 +20,13 @@ from fractions import Fraction
 from pathlib import Path
 from typing import NamedTuple
 
-import reference
-from reference import (DEMAND_3, SIDES, EnergyLine, Figure, Ledger, Loss, MassLine, Meter, Plant,
-                       Report, Source, Supply, VolumeLine, exact_energy, exact_factor,
-                       exact_figure, exact_fuel_milligrams, exact_reduction, exact_side,
-                       excess, numbers_of, rounds_up)
+from tests.reference import reference
+from tests.reference.reference import (
+    DEMAND_3, SIDES, EnergyLine, Figure, Ledger, Loss, MassLine, Meter, Plant, Report, Source,
+    Supply, VolumeLine, exact_energy, exact_factor, exact_figure, exact_fuel_milligrams,
+    exact_reduction, exact_side, excess, numbers_of, rounds_up)
 
-ROOT = Path(__file__).resolve().parent.parent
+ROOT = Path(__file__).resolve().parents[2]
 EXAMPLE = ROOT / 'examples' / 'site.txt'
 PAGE = ROOT / 'docs' / 'ANSWER.md'
 
@@ -420,7 +420,7 @@ def step_by_step(report: Followed) -> list[str]:
             document 01 with fractions, and rounded nowhere. "Leans" is how far the figure in the
             report is off to the safe side: {shown(LEAST_LEAN)} is exact, and below that would be
             unsafe. A reading that is taken away leans to the safe side the other way than one that
-            adds. `python3 tests/answer.py` computes every number on this page. It writes the page
+            adds. `python3 -m tests.documents.answer` computes every number on this page. It writes the page
             only if each figure leans by {shown(LEAST_LEAN)} or more and by less than its limit.''')]
     for number, rows in report.sources.items():
         source = report.ledger.sources[number]

@@ -7,7 +7,7 @@ import subprocess
 from pathlib import Path
 from typing import NamedTuple
 
-SOURCE = Path(__file__).resolve().parent.parent / 'measure/plain_tally.c'
+SOURCE = Path(__file__).resolve().parents[2] / 'measure/plain_tally.c'
 
 
 class Slip(NamedTuple):

@@ -1,4 +1,4 @@
-// What tests/fuzz.sh has AFL++ run on each input: the plain C answers it, then the program that the
+// What tests/comparison/fuzz.sh has AFL++ run on each input: the plain C answers it, then the program that the
 // variable TALLY names, and abort() marks an input on which they differ.
 #define _POSIX_C_SOURCE 200809L
 #include <spawn.h>
@@ -7,7 +7,7 @@
 #include <unistd.h>
 
 #define main plain_main
-#include "../measure/plain_tally.c"
+#include "../../measure/plain_tally.c"
 #undef main
 
 extern char **environ;

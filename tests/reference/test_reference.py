@@ -11,14 +11,11 @@ import sys
 from fractions import Fraction
 from itertools import product
 
-import fuels
-import heat
-import margins
-import ratios
-import reference
-import sites
-from reference import (EnergyLine, MassLine, Refused, VolumeLine, exact_fuel_milligrams,
-                       fuel_milligrams, reading_watt_hours, tally)
+from tests.cases import fuels, heat, margins, ratios, sites
+from tests.reference import reference
+from tests.reference.reference import (
+    EnergyLine, MassLine, Refused, VolumeLine, exact_fuel_milligrams, fuel_milligrams,
+    reading_watt_hours, tally)
 
 LISTING = '''\
 (grid 812400 thermal)

@@ -1,10 +1,10 @@
 """Inputs for comparing tally with the reference.
 
-    generate.py SEED          writes the random input of a seed
-    generate.py --full SEED   writes a random input of 65,536 bytes
-    generate.py --fuzz DIR    writes small inputs and words for a fuzzer to start from
-    generate.py --self-check  runs 300 seeds and the boundary inputs through the
-                              reference and counts what they meet
+    python3 -m tests.comparison.generate SEED    writes the random input of a seed
+    --full SEED      writes a random input of 65,536 bytes
+    --fuzz DIR       writes small inputs and words for a fuzzer to start from
+    --self-check     runs 300 seeds and the boundary inputs through the reference and counts
+                     what they meet
 """
 
 import functools
@@ -16,14 +16,9 @@ from fractions import Fraction
 from itertools import product
 from pathlib import Path
 
-import counterexamples
-import fuels
-import heat
-import margins
-import ratios
-import reference
-import sites
-from reference import EnergyLine, FuelLine, MassLine, Meter, Plant, VolumeLine
+from tests.cases import counterexamples, fuels, heat, margins, ratios, sites
+from tests.reference import reference
+from tests.reference.reference import EnergyLine, FuelLine, MassLine, Meter, Plant, VolumeLine
 
 LINES = 60
 

@@ -653,7 +653,7 @@ def gap(ledger: Ledger, given: Report, number: int) -> Fraction:
 
 
 class Constants(NamedTuple):
-    """Those of demand 3; tests/counterexamples.py makes each one smaller."""
+    """Those of demand 3; tests/cases/counterexamples.py makes each one smaller."""
 
     factor_multiple: int = 13
     energy_multiple: int = 11
