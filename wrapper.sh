@@ -12,9 +12,27 @@ fail() {
     exit 1
 }
 
+# Words for a person: only where standard error is a terminal, so that no script reads them.
+hint() {
+    [ ! -t 2 ] || echo "$name: $1" >&2
+}
+
+# hint_typing WORDS: for a person who types the input.
+hint_typing() {
+    [ ! -t 0 ] || hint "$1"
+}
+
 is_built() {
     [ -x "$program" ] && [ -f "$stamp" ] &&
         [ -z "$(find "$root/crates.txt" "$root/crates" -newer "$stamp" | head -n 1)" ]
+}
+
+# How many crates of the repository the program is made of, itself among them.
+crates() {
+    awk -F '[: ]+' -v name="$name" '
+        !/^#/ { ours[$1] = 1 }
+        $1 == name { for (i = 1; i <= NF; i++) used[$i] = 1 }
+        END { for (crate in used) count += crate in ours; print count + 0 }' "$root/crates.txt"
 }
 
 build() {
@@ -22,18 +40,19 @@ build() {
         echo "$name: rt is missing (the Rattle toolchain, under /opt/rattle)" >&2
         return 1
     fi
+    if ! mkdir -p "$root/target" 2>/dev/null || [ ! -w "$root/target" ]; then
+        echo "$name: $root/target cannot be written" >&2
+        return 1
+    fi
     if [ -x "$program" ]; then
         echo "$name: a file changed since the last check, or that check failed; checking again" >&2
     else
-        echo "$name: the first build proves the crates and takes some minutes" >&2
+        echo "$name: the first build proves $(crates) crates, printed one by one, in 3 to 8 minutes" >&2
     fi
-    began=$(mktemp) || return 1
-    (cd "$root" && rt check "$name") </dev/null >&2
-    status=$?
+    began=$(date +%s.%N)
+    (cd "$root" && rt check "$name") </dev/null >&2 || return 1
     # What is edited while rt runs is newer than the build.
-    [ "$status" -ne 0 ] || touch -r "$began" "$stamp"
-    rm -f "$began"
-    return "$status"
+    touch -d "@$began" "$stamp"
 }
 
 # prepare USAGE ARGUMENTS..: ends the wrapper where it was given arguments, where standard input or output is
