@@ -5,9 +5,10 @@
                   names; changes nothing
     --self-test   breaks one rounding after the other; each must be refused at its row
 
-The page follows the first report of examples/site.txt from meter to tonnes with exact fractions.
-Every number on it is computed. Each figure must lean to the safe side, by at least 0 and by less
-than the limit of its row; otherwise the row is named, nothing is written and the status is 1.
+The first report of examples/site.txt is followed from meter to tonnes with exact fractions; the
+page shows two of its sources. Every number is computed. Each figure, shown or not, must lean to the
+safe side, by at least 0 and by less than the limit of its row; otherwise the row is named, nothing
+is written and the status is 1.
 """
 
 import ast
@@ -31,7 +32,8 @@ EXAMPLE = ROOT / 'examples' / 'site.txt'
 PAGE = ROOT / 'docs' / 'ANSWER.md'
 
 DECIMALS = 9  # shown of a number at most
-WIDTH = 140  # of a line of the page
+WIDTH = 118  # of a line of the page
+SHOWN = (1, 4)  # of the sources: captive plants of one site, once rounded up and once down
 
 
 # 1. The limits: how far a figure may lean to the safe side. Each is stated here alone.
@@ -370,17 +372,16 @@ def which_is_true(report: Followed) -> list[str]:
     printed = reference.answer_text(report.given).splitlines()[SIDES.index('project')]
     return [
         '## "I add up the sources and get less than the printed total. Which is true?"',
-        paragraph('Both stand on the safe side of the exact value. The printed total is what counts.'),
+        paragraph('''Neither is too low, and the printed total is what counts. Project and leakage
+            must not be stated too low: their safe side is up. A baseline must not be stated too high:
+            its safe side is down.'''),
         paragraph(f'''Take the project in the first report of `examples/site.txt`. Its sources are
             {' g + '.join(map(shown, grams))} g. Together that is {shown(sum(grams))} g, or
-            {shown(Fraction(sum(grams), MILLION))} t. The report prints {shown(project.value)} t.
-            The exact value, rounded nowhere, is {shown(project.exact)} t. Your sum is not below it,
-            and the printed total is not below your sum. The report adds up the grams as you did,
-            then rounds the sum once to whole tonnes, to the safe side. Its line `{printed}` has the
-            tonnes, the grams and the number of sources.'''),
-        paragraph('''The safe side of project and leakage is up: they must not be stated too low.
-            The safe side of the baseline is down: it must not be stated too high. There your sum is
-            more than the printed total, and neither is above the exact value.'''),
+            {shown(Fraction(sum(grams), MILLION))} t. The report prints {shown(project.value)} t: it
+            adds up the grams as you did, then rounds the sum once, up to whole tonnes. The exact
+            value, rounded nowhere, is {shown(project.exact)} t.'''),
+        paragraph(f'''The line `{printed}` has the tonnes, the grams and the number of sources. Of a
+            baseline your sum is more than the printed total, and neither is above the exact value.'''),
         table(('Side', 'Grams of its sources', 'Their sum', 'Printed', 'Exact', 'In order'), rows),
         paragraph(f'''The reduction is taken from the printed tonnes: {shown(baseline.value)} −
             {shown(project.value)} − {shown(leakage.value)} = {shown(report.reduction.value)} t. The
@@ -404,11 +405,11 @@ def how_we_know() -> list[str]:
             stands the law that proves it; docs/PROVED.md says where.'''),
         chain(STEPS),
         paragraph(f'''A plant that also makes heat burns a part of its fuel for it. For project and
-            leakage nothing of that is taken off. For a baseline source it is, and that is rounded
-            too. H is the heat and J the energy of the plant's fuel, in kJ. K is J of all plants with
-            heat at the site, ÷ {THOUSAND:,}, ÷ the kWh that the site generated. A baseline source that
-            names such a site has these limits, and the last of them in place of
-            {shown(SOURCE_KG)} kg in the tonnes and in the reduction:'''),
+            leakage nothing of that is taken off; for a baseline source it is, rounded down. H is the
+            heat and J the energy of the plant's fuel, in kJ. K is J of all plants with heat at the
+            site, ÷ {THOUSAND:,}, ÷ the kWh that the site generated.'''),
+        paragraph(f'''A baseline source that names such a site has these limits, and the last of them
+            in place of {shown(SOURCE_KG)} kg in the tonnes and in the reduction:'''),
         chain(STEPS_WITH_HEAT)]
 
 
@@ -416,14 +417,15 @@ def step_by_step(report: Followed) -> list[str]:
     head = ('Step', 'Exact', 'In the report', 'Leans', 'Off by less than')
     parts = [
         '## One report, step by step',
-        paragraph(f'''Here is the same report again. "Exact" is worked out from the formulas of
-            document 01 with fractions, and rounded nowhere. "Leans" is how far the figure in the
-            report is off to the safe side: {shown(LEAST_LEAN)} is exact, and below that would be
-            unsafe. A reading that is taken away leans to the safe side the other way than one that
-            adds. `python3 -m tests.documents.answer` computes every number on this page. It writes the page
-            only if each figure leans by {shown(LEAST_LEAN)} or more and by less than its limit.''')]
-    for number, rows in report.sources.items():
-        source = report.ledger.sources[number]
+        paragraph(f'''Two sources of the same report, on the plants of one site: a project source is
+            rounded up, a baseline source down. "Exact" is worked out from the formulas of document 01
+            with fractions, and rounded nowhere. "Leans" is how far the figure in the report is off to
+            the safe side: {shown(LEAST_LEAN)} is exact, and below that would be unsafe.'''),
+        paragraph(f'''`python3 -m tests.documents.answer` computes every number on this page. It writes
+            the page only if each figure of all {shown(len(report.sources))} sources leans by
+            {shown(LEAST_LEAN)} or more and by less than its limit.''')]
+    for number in SHOWN:
+        source, rows = report.ledger.sources[number], report.sources[number]
         supply = ' '.join(str(part) for part in source.supply if part is not None)
         parts += [f'### Source {number}: {source.side}, {supply}',
                   table(head, [row.text for row in rows])]
@@ -431,23 +433,27 @@ def step_by_step(report: Followed) -> list[str]:
     return parts + ['### Sides and reduction', table(head, [row.text for row in rows])]
 
 
-def closing() -> str:
+def closing() -> list[str]:
     others = quoted(law for step in BY_OTHER_LAWS for law in STEPS[step].laws)
-    return paragraph(f'''That is no accident of this example. `demand-3` says of every report given,
-        after any entries and drops from an empty ledger, refused ones included: the grams of each
-        source, the tonnes of each side and the reduction stand on the safe side; the gap of each
-        source, which is how far its grams are off, is below its limit and below {shown(SOURCE_KG)}
-        kg, or with heat below its limit alone; and tonnes and reduction are off by less than their
-        limits. Of readings, E, U, fuel lines and F it does not say so. That these lean to the safe side, by less than their limits,
-        is what the other laws say, of every accepted entry: {others}. At the box, where each line is
-        answered as it is typed, the same holds of every list of lines: `{AT_THE_BOX}`.''')
+    return [
+        '## For every report',
+        paragraph(f'''That is no accident of this example. `demand-3` says of every report given,
+            after any entries and drops from an empty ledger, refused ones included: the grams of each
+            source, the tonnes of each side and the reduction are on the safe side, and off by less
+            than their limits; the grams of a source also by less than {shown(SOURCE_KG)} kg, unless it
+            is a baseline source at a site with heat.'''),
+        paragraph(f'''Of readings, E, U, fuel lines and F the other laws say it, of every accepted
+            entry: {others}. At the box, where each line is answered as it is typed, the same holds of
+            every list of lines: `{AT_THE_BOX}`.''')]
 
 
 def page() -> str:
     """Raises Refused where a figure may not stand."""
     report = followed()
-    parts = ['# The answer to the manager', *which_is_true(report), *how_we_know(),
-             *step_by_step(report), closing()]
+    parts = ['# The answer to the manager',
+             paragraph('''For the manager who asks, and for those who train managers: which of two
+                 totals is true, and how we know that it is safe.'''),
+             *which_is_true(report), *how_we_know(), *step_by_step(report), *closing()]
     return '\n\n'.join(parts) + '\n'
 
 

@@ -16,7 +16,7 @@ from pathlib import Path
 ROOT = Path(__file__).resolve().parents[2]
 
 # The most lines of each, and of each note on a landing.
-LINES = {'README.md': 90, 'docs/MANUAL.md': 220, 'docs/ANSWER.md': 110, 'docs/PROVED.md': 300,
+LINES = {'README.md': 90, 'docs/MANUAL.md': 230, 'docs/ANSWER.md': 125, 'docs/PROVED.md': 300,
          'docs/CODE.md': 80, 'docs/DECISIONS.md': 220, 'docs/MEASURED.md': 130,
          'docs/LANDINGS.md': 40, 'box/README.md': 130, 'tests/wrong/README.md': 110}
 NOTE_LINES = 25
