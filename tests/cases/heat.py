@@ -4,7 +4,7 @@ their rounded milligrams × 1,000 ÷ J, each rounded down, and for the other sid
 
 Of a plant with lines of C 1,000 a kJ is 1 mg, so that J - H mg are left. test_reference.py
 compares the answers with the reference's; generate.py has the lines among its inputs made by
-hand, and ledger_vectors.py as calls. A slash stands between the lines of a report.
+hand. A slash stands between the lines of a report.
 """
 
 

@@ -2,8 +2,7 @@
 hand: a reading is its ratio times its Wh, rounded once, and the product is what has a limit.
 
 test_reference.py compares the answers with the reference's; generate.py has the lines among
-its inputs made by hand, and ledger_vectors.py as calls. A slash stands between the lines of a
-report.
+its inputs made by hand. A slash stands between the lines of a report.
 """
 
 SIDES = ('project', 'leakage', 'baseline')

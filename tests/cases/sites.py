@@ -2,8 +2,7 @@
 a site has a factor in a direction, or is refused 9 or 10 there, whoever names it.
 
 test_reference.py compares the answers with the reference's; generate.py has the lines among
-its inputs made by hand, and ledger_vectors.py as calls. A slash stands between the lines of a
-report.
+its inputs made by hand. A slash stands between the lines of a report.
 """
 
 from itertools import product
