@@ -22,7 +22,7 @@ import os
 import signal
 import sys
 from collections import Counter, deque
-from collections.abc import Iterator
+from collections.abc import Callable, Iterator
 from itertools import combinations
 from pathlib import Path
 from types import ModuleType
@@ -104,21 +104,26 @@ def named_in(statements: list[ast.stmt]) -> Iterator[tuple[str, ast.stmt]]:
             yield ast.unparse(statement.targets[0]), statement
 
 
-def file_of(module: ModuleType) -> File:
+def file_of(module: ModuleType, is_rule: Callable[[str, int], bool]) -> File:
+    """With the rules of which the name and the line are such."""
     path = Path(module.__file__)
     text = path.read_text()
-    return File(path.name, text.splitlines(), ast.parse(text), [])
+    tree = ast.parse(text)
+    return File(path.name, text.splitlines(), tree,
+                [(name, rule) for name, rule in named_in(tree.body) if is_rule(name, rule.lineno)])
+
+
+def end_of_rules() -> int:
+    lines = Path(reference.__file__).read_text().splitlines()
+    if END_OF_RULES not in lines:
+        raise WrongTable(f'the reference has no line {END_OF_RULES!r}')
+    return lines.index(END_OF_RULES) + 1
 
 
 def files() -> list[File]:
-    rules, replayed = file_of(reference), file_of(replay)
-    if END_OF_RULES not in rules.lines:
-        raise WrongTable(f'{rules.name} has no line {END_OF_RULES!r}')
-    end = rules.lines.index(END_OF_RULES)
-    rules.rules.extend((name, rule) for name, rule in named_in(rules.tree.body)
-                       if rule.lineno <= end and name not in NO_RULES)
-    replayed.rules.extend((name, rule) for name, rule in named_in(replayed.tree.body)
-                          if name in REPLAYED)
+    end = end_of_rules()
+    rules = file_of(reference, lambda name, line: line < end and name not in NO_RULES)
+    replayed = file_of(replay, lambda name, line: name in REPLAYED)
     if len(replayed.rules) != len(REPLAYED):
         raise WrongTable(f'{replayed.name} lacks one of {", ".join(REPLAYED)}')
     return [rules, replayed]
