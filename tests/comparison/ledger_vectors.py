@@ -351,7 +351,7 @@ def source_limits(calls: Calls):
         calls.source(3, 'baseline', COMBINED, measured(0), whole(last))
         calls.source(4, 'project', COMBINED, measured(5_000), whole(LIMIT, first=last))
         calls.report()
-    for side, last in product(SIDES, (4, 5, 6)):
+    for side, last in zip(SIDES, (4, 5, 6)):
         calls.source(5, side, COMBINED, measured(0), whole(last), whole(5, sign='-'))
         calls.source(5, side, COMBINED, measured(0), whole(LIMIT), whole(last), whole(5, 0, '-'))
     calls.report()
@@ -612,7 +612,7 @@ def comparisons(calls: Calls):
 def sums_of_all_sources(calls: Calls):
     """P = B and P' = B' of 32 sources, each of which the sums need."""
     calls.grid(700_001)
-    for number in range(32):
+    for number in range(31):
         calls.source(number, ('project', 'leakage')[number // 2 % 2] if number % 2 else 'baseline',
                      COMBINED, measured(1), whole(1_000 + number // 2))
     calls.source(31, 'leakage', GRID_DEFAULT, measured(1), whole(1_015))
