@@ -58,6 +58,20 @@ def read_all(master: int) -> str:
     return words.decode()
 
 
+def ended_status(process: subprocess.Popen) -> int:
+    """Its status, that of a kill where it does not end by itself."""
+    try:
+        return process.wait(SECONDS)
+    except subprocess.TimeoutExpired:
+        os.killpg(process.pid, signal.SIGKILL)
+        return process.wait()
+
+
+def hear_ctrl_c():
+    """As in a terminal: what starts this may have it ignored."""
+    signal.signal(signal.SIGINT, signal.SIG_DFL)
+
+
 def run(command: list, typed: bytes | None = None, data: bytes = b'', terminal: bool = True,
         **more) -> Ended:
     """Standard error is a terminal, or a file; standard input is one where something is typed."""
@@ -71,11 +85,7 @@ def run(command: list, typed: bytes | None = None, data: bytes = b'', terminal: 
         os.close(slave)
         if typed is not None:
             os.write(master, typed)
-        try:
-            status = process.wait(SECONDS)
-        except subprocess.TimeoutExpired:
-            os.killpg(process.pid, signal.SIGKILL)
-            status = process.wait()
+        status = ended_status(process)
         words = read_all(master)
         err.seek(0)
         out.seek(0)
@@ -171,12 +181,12 @@ class Tests:
         folder, environment = self.copied('interrupted', ': >began; sleep 60')
         process = subprocess.Popen([folder / 'tally'], stdin=subprocess.DEVNULL, env=environment,
                                    stdout=subprocess.DEVNULL, stderr=subprocess.DEVNULL,
-                                   start_new_session=True)
+                                   start_new_session=True, preexec_fn=hear_ctrl_c)
         until = time.monotonic() + SECONDS
         while not (folder / 'began').exists() and time.monotonic() < until:
             time.sleep(0.05)
         os.killpg(process.pid, signal.SIGINT)
-        status = process.wait(SECONDS)
+        status = ended_status(process)
         left = [path.name for path in (folder / 'temporary').iterdir()]
         left += [path.name for path in (folder / 'target').rglob('*')]
         self.check('tally, Ctrl-C while it is built', status in (-signal.SIGINT, 130) and not left,
