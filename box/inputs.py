@@ -2,9 +2,9 @@
 
     inputs.py FOLDER
 
-They are document 01's listing, the example, the inputs made by hand of tests/comparison/generate.py, with the
-edge cases of lines among them, lines of other lengths, 50 random inputs by seed, and a full ledger
-with a report.
+They are document 01's listing, the example, the inputs made by hand of
+tests/comparison/generate.py, with the edge cases of lines among them, lines of other lengths, 50
+random inputs by seed, and a full ledger with a report.
 """
 
 import sys
