@@ -290,12 +290,13 @@ def refuses(statement: ast.stmt) -> bool:
 WEIGHTS = 'entered.operating_weight + entered.build_weight'
 MARGINS = 'entered.operating > FACTOR_LIMIT or entered.build > FACTOR_LIMIT'
 MEAN = ('Fraction(entered.operating * entered.operating_weight'
-        ' + entered.build * entered.build_weight, 100)')
+        ' + entered.build * entered.build_weight, WEIGHT_SUM)')
 CARBON = '1000 * CO2_OF_CARBON * grams * Fraction(line.carbon, 10000)'
 IS_ENERGY = 'isinstance(line, EnergyLine)'
 CONTENT = 'rounded(Fraction(milligrams * 1000, J), up)'
+TOO_MUCH = 'len(plant.fuel_lines) > FUEL_LINE_LIMIT or plant.generation > GENERATION_LIMIT'
 LEFT = 'rounded(Fraction((J - plant.heat) * A, 1000), up)'
-NO_GENERATION = 'generation_at(ledger, site) < 1000'
+NO_GENERATION = 'generation_at(ledger, site) < LEAST_GENERATION'
 REFUSAL = 'figure_refused(ledger, ledger.sources[number])'
 DAMAGED = 'enter(number, record) is not self.rules.OK'
 STORE_PLANT = 'self.plants.update({number: plant})'
@@ -349,8 +350,8 @@ OTHER_STEPS = (
     ('site_refused', 'captive_factor(ledger, site, up)', 'captive_factor(ledger, site, True)'),
     ('site_refused', 'captive_factor(ledger, site, up)', 'captive_factor(ledger, site, False)'),
     ('transmission_loss', 'totals_over(ledger, GRID_SUPPLIES)',
-     "totals_over(ledger, ('combined', 'griddefault'))"),
-    ('grid_default_factor', "totals_over(ledger, ('combined', 'griddefault'))",
+     'totals_over(ledger, DEFAULT_SUPPLIES)'),
+    ('grid_default_factor', 'totals_over(ledger, DEFAULT_SUPPLIES)',
      'totals_over(ledger, GRID_SUPPLIES)'),
     ('side_report', 'side_tonnes(grams, rounds_up(side))',
      'sum(side_tonnes(figures[number].grams, rounds_up(side)) for number in numbers)'),
@@ -370,9 +371,8 @@ STORED_REFUSED = tuple(
     (function, text, f'(({text}), ({text}) == {number} and {store})[0]')
     for function, text, store, numbers in (
         ('enter_grid', 'margin_refused(entered)',
-         "setattr(self, 'grid', Grid(exact_combined_margin(entered), mark))", (2, 15)),
-        ('enter_plant', 'len(plant.fuel_lines) > 4 or plant.generation > 100000000', STORE_PLANT,
-         (True,)),
+         "setattr(self, 'grid', Grid(entered, mark))", (2, 15)),
+        ('enter_plant', TOO_MUCH, STORE_PLANT, (True,)),
         ('enter_plant', 'any((fuel_refused(line) for line in plant.fuel_lines))', STORE_PLANT,
          (True,)),
         ('enter_plant', 'heat_refused(plant)', STORE_PLANT, (16, 17)),
@@ -497,11 +497,11 @@ EQUIVALENT = (
          ' every ratio, and below every register with it'),
     Same('exact_watt_hours', 'return None if read is None else read * ratio',
          ('read is None -> False',), 'it is asked of no reading that is refused 3'),
-    Same('judge_meters', 'if not 1 <= len(meters) <= 4:',
+    Same('judge_meters', 'if not 1 <= len(meters) <= METER_LIMIT:',
          ('tested after any((ratio_refused(m.ratio) for m in meters))',), 'both are refused 2'),
     Same('meter_sums', 'adds = takes = 0', ('0 -> 1', '0 -> -1'),
          'both sums begin with it, and what is used of them is their difference'),
-    Same('enter_plant', 'if len(plant.fuel_lines) > 4 or plant.generation > 100_000_000:',
+    Same('enter_plant', f'if {TOO_MUCH}:',
          ('tested after any((fuel_refused(line) for line in plant.fuel_lines))',),
          'both are refused 2'),
     Same('without_heat', 'A = rounded(Fraction(milligrams * 1_000, J), up)',

@@ -97,6 +97,7 @@ def reading_watt_hours(kind: str, value: int, ratio: int, up: bool) -> int | Ref
 
 # 3. Meters and the energy of a source
 
+METER_LIMIT = 4  # "A source has 1 to 4 meters."
 ENERGY_LIMIT_WH = 100_000_000_000
 
 
@@ -120,7 +121,7 @@ class Meter(NamedTuple):
 def judge_meters(side: str, meters: list[Meter]) -> int | tuple[int, int]:
     """2, 3 or 4, "each number tested over all meters before the next";
     otherwise the watt-hours that add and those that take."""
-    if not 1 <= len(meters) <= 4:
+    if not 1 <= len(meters) <= METER_LIMIT:
         return 2
     if any(ratio_refused(m.ratio) for m in meters):
         return 2
@@ -193,17 +194,27 @@ FuelLine = EnergyLine | MassLine | VolumeLine
 # "from 44/12 in the fossil fuel combustion tool"
 CO2_OF_CARBON = Fraction(44, 12)
 
+QUANTITY_LIMIT = 100_000_000  # Q
+LEAST_NET_CALORIFIC_VALUE = 1  # V
+NET_CALORIFIC_VALUE_LIMIT = 150_000
+EMISSION_FACTOR_LIMIT = 200_000  # C
+CARBON_LIMIT = 10_000  # W
+DENSITY_LIMIT = 2_000
+
 
 def fuel_refused(line: FuelLine) -> bool:
     """2, of a line of any kind."""
     # "Q keeps its limit"
-    if line.quantity > 100_000_000:
+    if line.quantity > QUANTITY_LIMIT:
         return True
     if isinstance(line, EnergyLine):
         # "V outside 1 to 150,000, or C above 200,000"
-        return not 1 <= line.net_calorific_value <= 150_000 or line.emission_factor > 200_000
+        V = line.net_calorific_value
+        return (not LEAST_NET_CALORIFIC_VALUE <= V <= NET_CALORIFIC_VALUE_LIMIT
+                or line.emission_factor > EMISSION_FACTOR_LIMIT)
     # "W above 10,000 or a density above 2,000 is refused 2"
-    return line.carbon > 10_000 or isinstance(line, VolumeLine) and line.density > 2_000
+    return (line.carbon > CARBON_LIMIT
+            or isinstance(line, VolumeLine) and line.density > DENSITY_LIMIT)
 
 
 def exact_fuel_milligrams(line: FuelLine) -> Fraction:
@@ -222,9 +233,19 @@ def fuel_milligrams(line: FuelLine, up: bool) -> int:
 
 # 5. The ledger: what stands after the calls so far
 
+# "Sources are numbered 0 to 31, plants 0 to 7, sites 0 to 3."
+LAST_SOURCE = 31
+LAST_PLANT = 7
+LAST_SITE = 3
+
 MEASURED_LOSS_LIMIT = 5_000  # T, ten-thousandths
 FACTOR_LIMIT = 10_000_000  # F, mg/kWh
+WEIGHT_SUM = 100  # percent
+FUEL_LINE_LIMIT = 4  # of a plant
+GENERATION_LIMIT = 100_000_000  # kWh, of a plant
+LEAST_GENERATION = 1_000  # kWh, of a site that a source names
 
+DEFAULT_SUPPLIES = ('combined', 'griddefault')  # those that P and B are over
 GRID_SUPPLIES = ('combined', 'griddefault', 'either')
 SITE_SUPPLIES = ('captive', 'either')
 
@@ -238,8 +259,13 @@ class Margins(NamedTuple):
 
 
 class Grid(NamedTuple):
-    combined_margin: Fraction  # mg/kWh, rounded nowhere
+    entered: int | Margins  # mg/kWh
     mark: str  # 'thermal' or 'hydro'
+
+    @property
+    def combined_margin(self) -> Fraction:
+        """Rounded nowhere."""
+        return exact_combined_margin(self.entered)
 
 
 class Plant(NamedTuple):
@@ -298,13 +324,13 @@ class Ledger:
         refusal = margin_refused(entered)
         if refusal is not OK:
             return refusal
-        self.grid = Grid(exact_combined_margin(entered), mark)
+        self.grid = Grid(entered, mark)
         return OK
 
     def enter_plant(self, number: int, plant: Plant) -> int | None:
-        if number > 7 or plant.site > 3:
+        if number > LAST_PLANT or plant.site > LAST_SITE:
             return 1
-        if len(plant.fuel_lines) > 4 or plant.generation > 100_000_000:
+        if len(plant.fuel_lines) > FUEL_LINE_LIMIT or plant.generation > GENERATION_LIMIT:
             return 2
         if any(fuel_refused(line) for line in plant.fuel_lines):
             return 2
@@ -322,10 +348,10 @@ class Ledger:
         return OK
 
     def drop_plant(self, number: int) -> int | None:
-        return drop(self.plants, number, highest=7)
+        return drop(self.plants, number, LAST_PLANT)
 
     def drop_source(self, number: int) -> int | None:
-        return drop(self.sources, number, highest=31)
+        return drop(self.sources, number, LAST_SOURCE)
 
 
 def margin_refused(entered: int | Margins) -> int | None:
@@ -335,7 +361,7 @@ def margin_refused(entered: int | Margins) -> int | None:
     # refused 15."
     if entered.operating > FACTOR_LIMIT or entered.build > FACTOR_LIMIT:
         return 2
-    return 15 if entered.operating_weight + entered.build_weight != 100 else OK
+    return 15 if entered.operating_weight + entered.build_weight != WEIGHT_SUM else OK
 
 
 def exact_combined_margin(entered: int | Margins) -> Fraction:
@@ -343,7 +369,7 @@ def exact_combined_margin(entered: int | Margins) -> Fraction:
     if not isinstance(entered, Margins):
         return Fraction(entered)
     return Fraction(entered.operating * entered.operating_weight
-                    + entered.build * entered.build_weight, 100)
+                    + entered.build * entered.build_weight, WEIGHT_SUM)
 
 
 def heat_refused(plant: Plant) -> int | None:
@@ -357,7 +383,8 @@ def heat_refused(plant: Plant) -> int | None:
 
 def source_refused(number: int, source: Source) -> int | None:
     """The refusals 1 to 6 of a source entry, in the order tested."""
-    if number > 31 or (source.supply.site is not None and source.supply.site > 3):
+    site = source.supply.site
+    if number > LAST_SOURCE or (site is not None and site > LAST_SITE):
         return 1
     if source.loss.name == 'loss' and source.loss.measured > MEASURED_LOSS_LIMIT:
         return 2
@@ -427,7 +454,7 @@ def totals_over(ledger: Ledger, supplies: tuple) -> Totals:
 
 def grid_default_factor(ledger: Ledger) -> int | None:
     """griddefault: F by P and B; None where "it is not open"."""
-    sums = totals_over(ledger, ('combined', 'griddefault'))
+    sums = totals_over(ledger, DEFAULT_SUPPLIES)
     # "F is 1,300,000 if no such baseline source stands or P > B."
     if sums.baseline_sources == 0 or sums.project > sums.baseline:
         return 1_300_000
@@ -518,7 +545,7 @@ def emission_factor(ledger: Ledger, source: Source) -> tuple[str, int]:
 
 def site_refused(ledger: Ledger, site: int, up: bool) -> int | None:
     """9 or 10, of a site that a source names in this direction."""
-    if generation_at(ledger, site) < 1_000:
+    if generation_at(ledger, site) < LEAST_GENERATION:
         return 9
     return 10 if captive_factor(ledger, site, up) > FACTOR_LIMIT else OK
 
@@ -771,9 +798,11 @@ INPUT_LIMIT = 65_536
 LINE_LIMIT = 256
 
 # 14: "a decimal of more than 18 digits or with a zero before its other digits"
-NUMBER = rb'(?:0|[1-9][0-9]{0,17})'
+NUMBER_DIGITS = 18
+NUMBER = rb'(?:0|[1-9][0-9]{0,%d})' % (NUMBER_DIGITS - 1)
 # "a register is 8 lower-case hexadecimal digits, highest first"
-REGISTER = rb'[0-9a-f]{8}'
+REGISTER_DIGITS = 8
+REGISTER = rb'[0-9a-f]{%d}' % REGISTER_DIGITS
 
 
 def form(text: bytes) -> re.Pattern:
@@ -842,11 +871,14 @@ def plant_call(ledger: Ledger, parts: re.Match):
     return ledger.enter_plant(int(parts[1]), read_plant(parts))
 
 
-def source_call(ledger: Ledger, parts: re.Match):
+def read_source(parts: re.Match) -> Source:
     meters = [read_meter(*meter) for meter in METER_PARTS.findall(parts[5])]
-    source = Source(parts[2].decode(), Supply(*read_named(parts[3])),
-                    Loss(*read_named(parts[4])), meters)
-    return ledger.enter_source(int(parts[1]), source)
+    return Source(parts[2].decode(), Supply(*read_named(parts[3])),
+                  Loss(*read_named(parts[4])), meters)
+
+
+def source_call(ledger: Ledger, parts: re.Match):
+    return ledger.enter_source(int(parts[1]), read_source(parts))
 
 
 def drop_call(ledger: Ledger, parts: re.Match):
