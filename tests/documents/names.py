@@ -57,8 +57,8 @@ def words() -> set[str]:
 
 
 def stands(name: str, known: set[str], labels: set[str]) -> bool:
-    places = (ROOT / name, ROOT / 'box' / name, ROOT / 'crates' / name, ROOT / 'crates' / f'{name}.antt',
-              *(folder / name for folder in (ROOT / 'tests').iterdir()))
+    places = (ROOT / name, ROOT / 'box' / name, ROOT / 'explanation' / name, ROOT / 'crates' / name,
+              ROOT / 'crates' / f'{name}.antt', *(folder / name for folder in (ROOT / 'tests').iterdir()))
     if any(place.exists() for place in places) or name in labels:
         return True
     if name.endswith('..'):

@@ -92,6 +92,11 @@ def run(command: list, typed: bytes | None = None, data: bytes = b'', terminal: 
         return Ended(status, out.read(), words if terminal else err.read().decode())
 
 
+def listed(numbers: str, count: str) -> str:
+    return (f'refused lines, which count for nothing: {numbers} ({count}); '
+            './explain < FILE says why\n')
+
+
 class Tests:
     def __init__(self, room: Path):
         self.room = room
@@ -112,23 +117,22 @@ class Tests:
 
     def refused_lines(self):
         """The report's own refusal is a line, its answer of four lines is one."""
-        listed = 'refused lines, which count for nothing: '
         for name, data, words, answers in (
-                ('the example', EXAMPLE, f'{listed}9 (1 of 14)\n', ANSWERS),
+                ('the example', EXAMPLE, listed('9', '1 of 14'), ANSWERS),
                 ('no line refused', b'(report)\n(report)', 'no line is refused, of 2\n', 2 * REPORT),
                 ('an empty input', b'', 'the input is empty\n', b''),
-                ('an empty line', b'\n', f'{listed}1 (1 of 1)\n', b'refused 14\n'),
-                ('a report between', b'x\n(report)\nx', f'{listed}1, 3 (2 of 3)\n',
+                ('an empty line', b'\n', listed('1', '1 of 1'), b'refused 14\n'),
+                ('a report between', b'x\n(report)\nx', listed('1, 3', '2 of 3'),
                  b'refused 14\n' + REPORT + b'refused 14\n'),
                 ('a refused report', b'(source 0 project (captive 0) (none) (whole + 0 1))\n(report)\n',
-                 f'{listed}2 (1 of 2)\n', b'ok\nrefused 9 source 0\n'),
-                ('ten refused', 10 * b'x\n', f'{listed}1, 2, 3, 4, 5, 6, 7, 8, 9, 10 (10 of 10)\n',
+                 listed('2', '1 of 2'), b'ok\nrefused 9 source 0\n'),
+                ('ten refused', 10 * b'x\n', listed('1, 2, 3, 4, 5, 6, 7, 8, 9, 10', '10 of 10'),
                  10 * b'refused 14\n'),
                 ('twelve refused', 12 * b'x\n',
-                 f'{listed}1, 2, 3, 4, 5, 6, 7, 8, 9, 10 and 2 more (12 of 12)\n',
+                 listed('1, 2, 3, 4, 5, 6, 7, 8, 9, 10 and 2 more', '12 of 12'),
                  12 * b'refused 14\n'),
                 ('the largest input', 65_536 * b'\n',
-                 f'{listed}1, 2, 3, 4, 5, 6, 7, 8, 9, 10 and 65526 more (65536 of 65536)\n',
+                 listed('1, 2, 3, 4, 5, 6, 7, 8, 9, 10 and 65526 more', '65536 of 65536'),
                  65_536 * b'refused 14\n'),
                 ('an input that is too large', 65_537 * b'\n',
                  'the whole input is refused: it has more than 65,536 bytes\n', b'refused 14\n')):
