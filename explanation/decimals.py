@@ -1,5 +1,6 @@
 """Numbers and counts as a reader sees them."""
 
+import re
 from collections.abc import Iterable
 from fractions import Fraction
 
@@ -14,6 +15,15 @@ def shown(value: Fraction | int, decimals: int = DECIMALS) -> str:
     text = f'{whole:,}.{part:0{decimals}d}'
     text = text.rstrip('0').rstrip('.') if scaled == int(scaled) else text + '..'
     return f'-{text}' if value < 0 else text
+
+
+UNIT = re.compile(r'(?<=[0-9.]) (?=(?:t|g|mg|Wh|kWh|kJ|mg/kWh|percent)\b)')
+KEPT_SPACE = '\u00a0'  # at which no line is broken
+
+
+def with_units(words: str) -> str:
+    """The words with no break between a number and its unit."""
+    return UNIT.sub(KEPT_SPACE, words)
 
 
 def example(figure: str, unit: str, parts: int) -> str:

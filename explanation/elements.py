@@ -23,4 +23,7 @@ def element(tag: str, *content: 'str | Element', **attributes: object) -> Elemen
 
 
 def document(root: Element) -> str:
-    return f'<!DOCTYPE html>\n{ElementTree.tostring(root, encoding="unicode")}\n'
+    """Every element has an end tag, without which an empty one would not end in HTML; meta has none
+    there."""
+    text = ElementTree.tostring(root, encoding='unicode', short_empty_elements=False)
+    return f'<!DOCTYPE html>\n{text.replace("></meta>", "/>")}\n'

@@ -3,7 +3,7 @@
 from pathlib import Path
 from xml.etree.ElementTree import Element
 
-from explanation.decimals import lines_named, shown
+from explanation.decimals import lines_named, shown, with_units
 from explanation.elements import document, element
 from explanation.history import GivenReport, History, RefusedLine, groups
 from explanation.lines import visible
@@ -47,7 +47,7 @@ def page(title: str, parts: list[Element]) -> str:
 
 
 def small(words: str) -> Element:
-    return element('p', words, class_='small')
+    return element('p', with_units(words), class_='small')
 
 
 def card(title: str, *parts: Element) -> Element:
@@ -92,7 +92,8 @@ def report_section(report: GivenReport, seen: dict) -> Element:
         parts.append(element('div', element('p', element('b', 'Look first')),
                              element('ul', *(element('li', words) for words in missing)),
                              class_='look'))
-    parts.append(element('p', f'{asked} ', element('b', answered), class_='question'))
+    parts.append(element('p', f'{with_units(asked)} ', element('b', with_units(answered)),
+                         class_='question'))
     parts += [side_card(part) for part in followed.sides.values()]
     parts.append(card(reduction_title(followed.reduction), reduction_picture(followed),
                       small(reduction_words(followed))))

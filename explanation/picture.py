@@ -17,7 +17,8 @@ from explanation.sentences import grams, relation, tonnes
 WIDTH, LEFT, RIGHT = 1080, 14, 1066
 UPPER, LOWER = 108, 284  # where the two lines are
 BAND = 34  # the height of the zones over a line, and of a mark's stem
-SIGN = 10.2  # the width of a sign of a label
+SIGN, SMALL_SIGN = 10.2, 8.0  # the width of a sign of a label
+ROW = 28  # the height of a row of labels
 LEAST_GRAMS = Fraction(1, MILLION)  # leans below it are not enlarged
 TICKS = 8  # names on a line, about
 
@@ -138,7 +139,7 @@ def zones(axis: Axis, printed: Fraction | int, unsafe: str) -> list[Element]:
     safe = f'safe; proved: less than {shown(axis.reach, 3)} t off'
     toward = 1 if axis.up else -1
     start, end = ('start', 'end') if axis.up else ('end', 'start')
-    near_limit = abs(axis.at(printed) - far) < SIGN * len(safe)
+    near_limit = abs(axis.at(printed) - far) < SMALL_SIGN * len(safe) + 20
     words = (label(x + 16 * toward, axis.y - 9, safe, 's', start) if near_limit
              else label(far - 10 * toward, axis.y - 9, safe, 's', end))
     return [rect(axis.unsafe_end, x, top, BAND, 'url(#unsafe)'),
@@ -146,8 +147,11 @@ def zones(axis: Axis, printed: Fraction | int, unsafe: str) -> list[Element]:
             label((x + axis.unsafe_end) / 2, top + BAND / 2 + 6, unsafe, 's'), words]
 
 
-def figure(height: int, parts: list[Element], title: str) -> Element:
-    return element('svg', *parts, viewBox=f'0 0 {WIDTH} {height}', role='img', aria_label=title)
+def figure(bottom: int, parts: list[Element], title: str) -> Element:
+    """Without the highest row where no label is there."""
+    top = min(float(part.get('y')) for part in parts if part.tag == 'text') - ROW + 4
+    return element('svg', *parts, viewBox=f'0 {top:.0f} {WIDTH} {bottom - top:.0f}', role='img',
+                   aria_label=title)
 
 
 def hatching() -> Element:
@@ -172,7 +176,7 @@ def upper_line(axis: Axis, summed: Fraction, printed: Fraction | int, unsafe: st
             *mark('sum', axis.at(summed), axis.y), *mark('printed', x_printed, axis.y),
             *mark('exact', x_exact, axis.y),
             label(inside(x_exact, exact_label), y, exact_label, 'b'),
-            label(inside(x_printed, printed_label), y - 28 if close else y, printed_label,
+            label(inside(x_printed, printed_label), y - ROW if close else y, printed_label,
                   'b printed')]
 
 

@@ -5,7 +5,7 @@ from fractions import Fraction
 from typing import NamedTuple
 
 from explanation import steps
-from explanation.decimals import MILLION, counted, listed, shown
+from explanation.decimals import MILLION, counted, listed, ranges, shown
 from explanation.history import GivenReport, History, RefusedLine, Subject
 from explanation.lines import Finding
 from explanation.rows import Followed, Row, SidePart, SitePart, SourcePart, rounding
@@ -14,6 +14,7 @@ from tests.reference.reference import DEFAULT_SUPPLIES, GRID_SUPPLIES, Ledger, S
 
 TONNE_DECIMALS = 6  # of a value in tonnes: grams
 GRAM_DECIMALS = 3
+MOST_ADDED = 8  # sources of a side whose grams are shown one by one
 
 
 def sentence(*parts: str) -> str:
@@ -138,9 +139,11 @@ def side_title(part: SidePart) -> str:
 
 def side_words(part: SidePart) -> str:
     """How her sum comes about, how far both lean, and what is not the rule."""
-    numbers = listed(str(each.number) for each in part.sources)
+    numbers = [each.number for each in part.sources]
+    added = (part.summed.how if len(numbers) <= MOST_ADDED
+             else f'{shown(part.summed.value * MILLION)} g')
     words = sentence(
-        f'your sum, of source{"s" * (len(part.sources) > 1)} {numbers}: {part.summed.how} = '
+        f'your sum, of source{"s" * (len(numbers) > 1)} {ranges(numbers)}: {added} = '
         f'{tonnes(part.summed.value)}',
         f'it leans {grams(part.summed.lean)} to the safe side (proved: less than '
         f'{grams(part.summed.limit)}), the printed total {tonnes(part.printed.lean)} (proved: '

@@ -1,9 +1,8 @@
 """A file explained as plain text, for a terminal or a mail."""
 
-import re
 import textwrap
 
-from explanation.decimals import lines_named, shown
+from explanation.decimals import KEPT_SPACE, lines_named, shown, with_units
 from explanation.history import GivenReport, History, RefusedLine, groups
 from explanation.lines import visible
 from explanation.rows import Row, SidePart
@@ -15,13 +14,10 @@ from explanation.sentences import (
 WIDTH = 100
 
 
-WITH_UNIT = re.compile(r'(?<=[0-9.]) (?=(?:t|g|mg|Wh|kWh|kJ|mg/kWh|percent)\b)')
-KEPT_SPACE = '\u00a0'  # at which no line is broken
-
 
 def wrapped(words: str, indent: int = 0, then: int | None = None) -> str:
     """With an indent, and another one of the lines after the first. A unit is not cut off."""
-    return textwrap.fill(WITH_UNIT.sub(KEPT_SPACE, words), WIDTH, initial_indent=' ' * indent,
+    return textwrap.fill(with_units(words), WIDTH, initial_indent=' ' * indent,
                          subsequent_indent=' ' * (indent if then is None else then),
                          break_long_words=False, break_on_hyphens=False).replace(KEPT_SPACE, ' ')
 

@@ -33,8 +33,8 @@ from tests.reference.test_reference import Checks
 
 ROOT = Path(__file__).resolve().parents[2]
 EXAMPLE = (ROOT / 'examples/site.txt').read_bytes()
-SEEDS = 60
-LINES = 120  # of a long input of the generator, at most
+SEEDS = 40
+LINES = 60  # of a long input of the generator, at most
 # Every kind of row: margins, fuels of each kind, heat, ratios, either, defaults.
 EVERYTHING = b'''\
 (grid margins 1012400 612501 50 50 hydro)
@@ -236,6 +236,9 @@ def page_faults(explanation: History) -> Iterator[str]:
     """A page that is not well-formed does not parse."""
     written = page.written(explanation)
     root = ElementTree.fromstring(written)
+    unended = re.search(r'<(?!meta)[^>]*/>', written)
+    if unended:
+        yield f'in HTML it does not end: {unended[0]}'
     outside = [name for each in root.iter() for name in each.attrib
                if each.tag == 'script' or name.endswith(('src', 'href')) or name.startswith('on')]
     if outside or re.search(r'url\((?!#unsafe\))|@import|<script', written):
@@ -372,7 +375,7 @@ def program(checks: Checks):
 
 
 SHELL = (
-    ('./explain < examples', 1, 'could not be read'), ('./explain <&-', 1, 'input is closed'),
+    ('./explain < examples', 1, 'is a directory'), ('./explain <&-', 1, 'input is closed'),
     ('./explain < examples/site.txt >&-', 1, 'output is closed'),
     ('./explain < examples/site.txt > /dev/full', 1, 'could not be written'),
     ('{ ./explain < examples/site.txt; echo $? >&2; } | true', 0, '141'),
