@@ -55,14 +55,14 @@ def number_findings(key: str, typed: str) -> list[Finding]:
                       'look at the number')]
     if THOUSANDS.fullmatch(typed):
         return [wrong(f'{said} has separators', f'write {digits(typed)}')]
+    hint = f': {named.hint}' if named.hint else f', in {named.unit}' if named.unit else ''
     if re.fullmatch("[0-9]*([.,'_][0-9]*)+", typed):
-        hint = f': {named.hint}' if named.hint else f', in {named.unit}' if named.unit else ''
         return [wrong(f'{said} has a point or a comma', f'write a whole number{hint}')]
     if re.fullmatch('[+-][0-9]+', typed):
         return [wrong(f'{said} has a sign', 'numbers have none; the sign of a meter stands apart')]
     if re.fullmatch(r'[0-9.,]+[^0-9.,].*', typed):
         return [wrong(f'{said} has a unit or other signs', 'write the number alone')]
-    return [wrong(f'{said} is no number', f'as {named.hint}' if named.hint else 'write digits')]
+    return [wrong(f'{said} is no number', f'write a whole number{hint}')]
 
 
 def figures_findings(keys: tuple[str, ...], typed: list[str], form: str) -> list[Finding]:

@@ -8,6 +8,7 @@ has no words: then nothing is shown.
 import subprocess
 import sys
 import tempfile
+from contextlib import suppress
 from itertools import zip_longest
 from pathlib import Path
 from typing import NamedTuple
@@ -47,7 +48,7 @@ class RefusedLine(NamedTuple):
     meant: str | None  # the line as perhaps meant
     meant_answer: str  # what that would be answered
     subject: Subject | None  # None: it cannot be told
-    outcome: str  # what counts of the subject after it
+    entered_at: int | None  # the line of the subject's entry that still counts
 
 
 class GivenReport(NamedTuple):
@@ -78,6 +79,13 @@ class History(NamedTuple):
 # 1. tally
 
 
+def tell(words: str):
+    """On standard error, where it is open."""
+    with suppress(OSError, AttributeError):
+        sys.stderr.write(words)
+        sys.stderr.flush()
+
+
 def tally(data: bytes) -> bytes:
     """What ./tally answers. What it says while it is built is passed on."""
     with tempfile.TemporaryFile() as given, tempfile.TemporaryFile() as answers:
@@ -89,8 +97,7 @@ def tally(data: bytes) -> bytes:
         except OSError as error:
             raise Failed(f'./tally cannot be run: {error.strerror}') from error
         for words in process.stderr:
-            sys.stderr.buffer.write(words)
-            sys.stderr.flush()
+            tell(words.decode('utf-8', 'replace'))
         if process.wait() != 0:
             raise Failed(f'./tally ended with status {process.returncode}')
         answers.seek(0)
@@ -175,6 +182,8 @@ class Walker:
     def accept(self, number: int, intent: Intent):
         self.accepted += 1
         subject = intent.subject
+        if subject is None:
+            raise NoWords('accepted, and no words for what was entered')
         if intent.drops:
             del self.entered_at[subject]
             self.gone[subject] = f' (dropped on line {number})'
@@ -195,20 +204,13 @@ class Walker:
         self.refused.append(RefusedLine(
             number, line, told, findings, perhaps,
             first_answer(self.ledger, perhaps) if perhaps else '', subject,
-            self.outcome(subject)))
+            self.entered_at.get(subject)))
 
     def mend(self, subject: Subject | None, number: int):
         self.mended |= {line: number for line in self.open.pop(subject, [])}
 
     def told(self, kind: str, number: int | None) -> str:
         return self.gone.get(Subject(kind, number), '')
-
-    def outcome(self, subject: Subject | None) -> str:
-        if subject is None or subject.kind == 'report':
-            return ''
-        if subject in self.entered_at:
-            return f'{subject.name} still counts as entered on line {self.entered_at[subject]}'
-        return f'{subject.name} is not entered, and does not count'
 
     def missing(self) -> list[str]:
         """What the refused lines so far were to change, as it counts now."""
@@ -218,8 +220,15 @@ class Walker:
             if subject is None:
                 words.append(f'{refused}, and it cannot be told what was to be entered')
             elif subject.kind != 'report':
-                words.append(f'{refused}: {self.outcome(subject)}')
+                words.append(f'{refused}: {what_counts(subject, self.entered_at.get(subject))}')
         return words
+
+
+def what_counts(subject: Subject, entered_at: int | None) -> str:
+    """After a refused line about a subject."""
+    if entered_at is None:
+        return f'{subject.name} is not entered, and does not count'
+    return f'{subject.name} still counts as entered on line {entered_at}'
 
 
 def first_answer(ledger: Ledger, line: str) -> str:

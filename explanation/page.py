@@ -64,19 +64,16 @@ def refused_lines(title: str, lines: list[RefusedLine], mended: dict[int, int]) 
 
 
 def refused(lines: list[RefusedLine], mended: dict[int, int]) -> Element:
-    first = lines[0]
+    first, *others = lines
     numbers = lines_named([line.number for line in lines]).capitalize()
-    together = len(lines) > 1
-    parts = [element('p', f'{numbers}: {"each " * together}', element('code', first.answer))]
-    if not together:
-        parts.append(element('pre', visible(first.typed)))
-    parts.append(element('ul', *(element('li', words)
-                                 for words in findings_words(first.findings))))
-    if not together:
-        if first.meant:
-            parts += [element('p', meant_words(first)), element('pre', first.meant)]
-        outcome = outcome_words(first, mended)
-        parts += [element('p', outcome)] if outcome else []
+    parts = [element('p', f'{numbers}: {"each " if others else ""}', element('code', first.answer),
+                     ', the first of them:' if others else ''),
+             element('pre', visible(first.typed)),
+             element('ul', *(element('li', words) for words in findings_words(first.findings)))]
+    if first.meant and not others:
+        parts += [element('p', meant_words(first)), element('pre', first.meant)]
+    outcome = outcome_words(lines, mended)
+    parts += [element('p', outcome)] if outcome else []
     return element('div', *parts, class_='look')
 
 

@@ -216,10 +216,10 @@ def site_parts(ledger: Ledger) -> list[SitePart]:
 
 
 def factor_words(ledger: Ledger, source: Source, option: str) -> str:
-    if option == 'captive':
-        return f'the plants of site {source.supply.site}'
     if option != 'combined':
-        return 'a default'
+        return {'captive': f'the plants of site {source.supply.site}',
+                'griddefault': 'the default for the grid',
+                'captivedefault': 'the default for captive plants'}[option]
     entered = ledger.grid.entered
     if not isinstance(entered, Margins):
         return 'the combined margin as entered'

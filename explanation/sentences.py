@@ -6,12 +6,13 @@ from typing import NamedTuple
 
 from explanation import steps
 from explanation.decimals import MILLION, counted, listed, ranges, shown
-from explanation.history import GivenReport, History, RefusedLine, Subject
+from explanation.history import GivenReport, History, RefusedLine, Subject, what_counts
 from explanation.lines import Finding
 from explanation.rows import Followed, Row, SidePart, SitePart, SourcePart, rounding
 from tests.reference import reference
 from tests.reference.reference import DEFAULT_SUPPLIES, GRID_SUPPLIES, Ledger, Source, rounds_up
 
+REPORT = Subject('report')
 TONNE_DECIMALS = 6  # of a value in tonnes: grams
 GRAM_DECIMALS = 3
 MOST_ADDED = 8  # sources of a side whose grams are shown one by one
@@ -52,7 +53,9 @@ def summary(history: History) -> str:
     if reports:
         return f'{words} ' + sentence('every figure of a report was compared with the one that '
                                       'tally printed, and is equal')
-    asked = any(line.typed == b'(report)' for line in history.refused)
+    if file_words(history.data):
+        return words
+    asked = any(line.subject == REPORT for line in history.refused)
     return f'{words} ' + sentence('no report was given: each one asked for was refused' if asked
                                   else 'no line asks for a report, (report)')
 
@@ -89,13 +92,26 @@ def meant_words(line: RefusedLine) -> str:
     return f'Perhaps meant; it would be answered {line.meant_answer}. Look at it before you use it:'
 
 
-def outcome_words(line: RefusedLine, mended: dict[int, int]) -> str:
-    """What counts after a refused line."""
+def outcome_words(lines: list[RefusedLine], mended: dict[int, int]) -> str:
+    """What counts after a refused line, or after each of several."""
+    if len(lines) > 1:
+        return several_outcomes(lines)
+    line, = lines
     later = mended.get(line.number)
-    if line.subject == Subject('report'):
+    if line.subject == REPORT:
         return sentence(f'the report of line {later} was given' if later else '')
-    return sentence(f'so {line.outcome}' if line.outcome else '',
+    return sentence(f'so {what_counts(line.subject, line.entered_at)}' if line.subject else '',
                     f'line {later} was accepted in its place' if later else '')
+
+
+def several_outcomes(lines: list[RefusedLine]) -> str:
+    """A subject is named once, by the last of its lines."""
+    last = {line.subject: line.entered_at for line in lines if line.subject not in (None, REPORT)}
+    missing = [subject.name for subject, entered_at in last.items() if entered_at is None]
+    older = [f'{subject.name} as on line {entered_at}' for subject, entered_at in last.items()
+             if entered_at is not None]
+    return sentence(f'so these are not entered: {listed(missing)}' if missing else '',
+                    f'these still count as entered before: {listed(older)}' if older else '')
 
 
 # 3. A report
@@ -173,13 +189,12 @@ def reduction_words(followed: Followed) -> str:
 
 
 def loss_words(ledger: Ledger, source: Source, T: int) -> str:
-    name = source.loss.name
+    name, percent = source.loss.name, f'{shown(Fraction(T, 100))} percent'
     if name == 'none':
         return 'electricity of captive plants carries no loss'
-    percent = f'{shown(Fraction(T, 100))} percent'
     if name == 'loss':
         return f'the loss is {percent}, as measured'
-    if (name == 'default20') == rounds_up(source.side):
+    if rounds_up(source.side) == {'default20': True, 'default3': False}[name]:
         return f'the loss is {percent} by default'
     sums = reference.totals_over(ledger, GRID_SUPPLIES)
     return (f'the loss is {percent} by default, open to {source.side} because '

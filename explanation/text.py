@@ -44,18 +44,16 @@ def heading(words: str) -> str:
 
 
 def refused(lines: list[RefusedLine], mended: dict[int, int]) -> str:
-    first = lines[0]
+    first, *others = lines
     numbers = lines_named([line.number for line in lines]).capitalize()
-    if len(lines) > 1:
-        rows = [wrapped(numbers), f'    each {first.answer}']
-    else:
-        rows = [f'{numbers}   {visible(first.typed)}'.rstrip(), f'    {first.answer}']
+    rows = [wrapped(f'{numbers}, the first of them:'), f'    {visible(first.typed)}',
+            f'    each {first.answer}'] if others else [
+                f'{numbers}   {visible(first.typed)}'.rstrip(), f'    {first.answer}']
     rows += [wrapped(f'- {words}', 4, 6) for words in findings_words(first.findings)]
-    if len(lines) == 1:
-        if first.meant:
-            rows += [wrapped(meant_words(first), 4), f'      {first.meant}']
-        rows += [wrapped(words, 4) for words in [outcome_words(first, mended)] if words]
-    return '\n'.join(rows)
+    if first.meant and not others:
+        rows += [wrapped(meant_words(first), 4), f'      {first.meant}']
+    outcome = outcome_words(lines, mended)
+    return '\n'.join([*rows, wrapped(outcome, 4)] if outcome else rows)
 
 
 def reported(report: GivenReport, seen: dict) -> list[str]:

@@ -33,7 +33,7 @@ from tests.reference.test_reference import Checks
 
 ROOT = Path(__file__).resolve().parents[2]
 EXAMPLE = (ROOT / 'examples/site.txt').read_bytes()
-SEEDS = 40
+SEEDS = 30
 LINES = 60  # of a long input of the generator, at most
 # Every kind of row: margins, fuels of each kind, heat, ratios, either, defaults.
 EVERYTHING = b'''\
@@ -153,7 +153,17 @@ def stories(checks: Checks):
     checks.equal('on a page a mended line stands behind the reports',
                  shown.index('The report of line 14') < shown.index('mended later'), True)
     together = text.written(explain(EXAMPLE.replace(b'\n', b'\r\n')))
-    checks.equal('lines of one fault go together', 'Lines 1 to 14\n' in together, True)
+    checks.equal('lines of one fault go together',
+                 lacking(['Lines 1 to 14, the first of them:\n',
+                          'So these are not entered: the grid, plant 0, plant 1, source 0,'],
+                         together), [])
+    for data, words in ((EXAMPLE.decode().encode('utf-16'), 'The file is UTF-16'),
+                        (EXAMPLE.replace(b'\n', b'\r'), 'The lines end with CR alone')):
+        for written in (text.written(explain(data)), page.written(explain(data))):
+            checks.equal(words, words in written, True)
+    again = text.written(explain(lines(COUNTS, *3 * [MISTYPED])))
+    checks.equal('what still counts after them',
+                 'These still count as entered before: source 0 as on line 1.' in again, True)
 
 
 # 3. Nothing is shown that was not checked
@@ -311,7 +321,7 @@ def generated(checks: Checks, seeds: int):
             explanation = explain(data)
             text.written(explanation)
             faults = [each for line in explanation.refused for each in refused_faults(line)]
-            if at % 4 == 0:
+            if at % 5 == 0:
                 faults += page_faults(explanation)
         except Failed as reason:
             explanation, faults = None, [str(reason)]
