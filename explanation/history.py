@@ -57,6 +57,7 @@ class GivenReport(NamedTuple):
     followed: Followed
     entered_at: dict[Subject, int]  # the line of each entry that counts
     missing: list[str]  # what lines before it were to change, and did not
+    repeats: int | None  # the line of a report of which all this is the same
 
 
 class History(NamedTuple):
@@ -175,9 +176,15 @@ class Walker:
 
     def report(self, number: int, given: Report):
         self.mend(Subject('report'), number)
-        self.reports.append(GivenReport(
-            number, reference.answer_text(given).rstrip('\n'), follow(self.ledger, given),
-            dict(self.entered_at), self.missing()))
+        answer, missing = reference.answer_text(given).rstrip('\n'), self.missing()
+        before = self.reports[-1] if self.reports else None
+        if before and (before.answer, before.entered_at, before.missing) == (
+                answer, self.entered_at, missing):
+            self.reports.append(before._replace(number=number,
+                                                repeats=before.repeats or before.number))
+        else:
+            self.reports.append(GivenReport(number, answer, follow(self.ledger, given),
+                                            dict(self.entered_at), missing, None))
 
     def accept(self, number: int, intent: Intent):
         self.accepted += 1

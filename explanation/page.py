@@ -12,7 +12,7 @@ from explanation.rows import Row, SidePart
 from explanation.sentences import (
     HOW_WE_KNOW, LEGEND, Block, checksum, file_words, findings_words, meant_words, missing_words,
     new_blocks, nothing_to_explain, outcome_words, question, reduction_title, reduction_words,
-    relation, side_title, side_words, summary)
+    relation, repeats_words, side_title, side_words, summary)
 
 STYLE = Path(__file__).with_name('page.css').read_text(encoding='utf-8')
 DECIMALS = 6  # in a table
@@ -84,6 +84,8 @@ def report_section(report: GivenReport, seen: dict) -> Element:
     followed = report.followed
     asked, answered = question(followed)
     parts = [element('h2', f'The report of line {report.number}')]
+    if report.repeats:
+        return element('section', *parts, element('p', repeats_words(report)))
     missing = missing_words(report)
     if missing:
         parts.append(element('div', element('p', element('b', 'Look first')),

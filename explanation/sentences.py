@@ -117,6 +117,11 @@ def several_outcomes(lines: list[RefusedLine]) -> str:
 # 3. A report
 
 
+def repeats_words(report: GivenReport) -> str:
+    return sentence(f'it is the report of line {report.repeats} again: nothing was entered or '
+                    'dropped between')
+
+
 def question(followed: Followed) -> tuple[str, str]:
     """The manager's question with her figures, and its answer: of the first side on which her sum
     and the printed total differ."""

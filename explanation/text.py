@@ -9,7 +9,7 @@ from explanation.rows import Row, SidePart
 from explanation.sentences import (
     HOW_WE_KNOW, LEGEND, Block, checksum, file_words, findings_words, meant_words, missing_words,
     new_blocks, nothing_to_explain, outcome_words, question, reduction_title, reduction_words,
-    relation, side_title, side_words, summary)
+    relation, repeats_words, side_title, side_words, summary)
 
 WIDTH = 100
 
@@ -59,6 +59,8 @@ def refused(lines: list[RefusedLine], mended: dict[int, int]) -> str:
 def reported(report: GivenReport, seen: dict) -> list[str]:
     followed = report.followed
     parts = ['\n'.join(f'    {row}' for row in report.answer.split('\n'))]
+    if report.repeats:
+        return [*parts, wrapped(repeats_words(report))]
     missing = missing_words(report)
     if missing:
         parts.append('\n'.join(['LOOK FIRST', *(wrapped(f'- {words}', 0, 2) for words in missing)]))

@@ -147,6 +147,10 @@ def stories(checks: Checks):
                          lacking([words[1:] for words in missing], said), [])
     dropped = explain(lines(COUNTS, '(drop source 0)', '(drop source 0)')).refused[0]
     checks.equal('a drop of what was dropped', '(dropped on line 2)' in words_of(dropped), True)
+    for between, repeats in (('(report)', 1), ('(Report)', 1), ('# x', 1),
+                             ('(grid 1 thermal', None), ('(grid 1 thermal)', None)):
+        told = explain(lines('(report)', between, '(report)'))
+        checks.equal(f'a report again after {between!r}', told.reports[-1].repeats, repeats)
     example = explain(EXAMPLE)
     checks.equal('the line that the example mends', example.mended, {9: 10})
     shown = page.written(example)
@@ -260,7 +264,7 @@ def page_faults(explanation: History) -> Iterator[str]:
     yield from (f'line {report.number} is not shown as tally printed it'
                 for report in explanation.reports if report.answer not in shown)
     sides = sum(1 + sum(bool(part.sources) for part in report.followed.sides.values())
-                for report in explanation.reports)
+                for report in explanation.reports if not report.repeats)
     if len(pictures) != sides:
         yield f'{len(pictures)} pictures of {sides}'
 
