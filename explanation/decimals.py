@@ -50,8 +50,8 @@ def ranges(numbers: Iterable[int]) -> str:
             runs[-1][1] = number
         else:
             runs.append([number, number])
-    return listed(f'{a}' if a == b else f'{a}, {b}' if b == a + 1 else f'{a} to {b}'
-                  for a, b in runs)
+    return listed(words for a, b in runs for words in (
+        [f'{a} to {b}'] if b > a + 1 else dict.fromkeys((str(a), str(b)))))
 
 
 def lines_named(numbers: list[int]) -> str:

@@ -126,7 +126,7 @@ STORIES = (
                                '(report)'),
      ['line 1 was refused: source 3 is not entered, and does not count'], {}),
     ('a line of nobody knows what', ('(3 7)', 'x', '(report)'),
-     ['lines 1, 2 were refused, and it cannot be told what was to be entered'], {}),
+     ['lines 1 and 2 were refused, and it cannot be told what was to be entered'], {}),
     ('an empty line and a comment', ('', '# (source 0', '(report)'), [], {}),
     ('the grid', ('(grid 1 thermal)', '(grid 2 termal)', '(report)'),
      ['line 2 was refused: the grid still counts as entered on line 1'], {}),
