@@ -162,8 +162,8 @@ def count_findings(meters: int) -> list[Finding]:
         return []
     return [Finding(2, f'{counted(meters, "meter") if meters else "no meter"}; a source has 1 to '
                     f'{reference.METER_LIMIT}',
-                    'enter the others as a second source of the same side, supply and loss'
-                    if meters else 'write its meters last, as (whole + first last)')]
+                    'enter the others, + meters, as a second source of the same side, supply and '
+                    'loss' if meters else 'write its meters last, as (whole + first last)')]
 
 
 def energy_findings(source: Source) -> list[Finding]:

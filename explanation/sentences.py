@@ -5,7 +5,7 @@ from fractions import Fraction
 from typing import NamedTuple
 
 from explanation import steps
-from explanation.decimals import MILLION, counted, listed, ranges, shown
+from explanation.decimals import MILLION, counted, lines_named, listed, ranges, shown
 from explanation.history import GivenReport, History, RefusedLine, Subject, what_counts
 from explanation.lines import Finding
 from explanation.rows import Followed, Row, SidePart, SitePart, SourcePart, rounding
@@ -51,8 +51,8 @@ def summary(history: History) -> str:
     words = sentence(f'{counted(history.lines, "line")}: {shown(history.accepted)} accepted, '
                      f'{shown(len(history.refused))} refused, {counted(reports, "report")} given')
     if reports:
-        return f'{words} ' + sentence('every figure of a report was compared with the one that '
-                                      'tally printed, and is equal')
+        return f'{words} ' + sentence('every figure that tally printed was worked out a second '
+                                      'time, and is the same')
     if file_words(history.data):
         return words
     asked = any(line.subject == REPORT for line in history.refused)
@@ -78,7 +78,6 @@ def checksum(history: History) -> str:
 
 # 2. Refused lines
 
-
 MOST_FINDINGS = 6  # that are shown of a line
 
 
@@ -95,7 +94,7 @@ def meant_words(line: RefusedLine) -> str:
 def outcome_words(lines: list[RefusedLine], mended: dict[int, int]) -> str:
     """What counts after a refused line, or after each of several."""
     if len(lines) > 1:
-        return several_outcomes(lines)
+        return several_outcomes(lines, mended)
     line, = lines
     later = mended.get(line.number)
     if line.subject == REPORT:
@@ -104,14 +103,16 @@ def outcome_words(lines: list[RefusedLine], mended: dict[int, int]) -> str:
                     f'line {later} was accepted in its place' if later else '')
 
 
-def several_outcomes(lines: list[RefusedLine]) -> str:
+def several_outcomes(lines: list[RefusedLine], mended: dict[int, int]) -> str:
     """A subject is named once, by the last of its lines."""
     last = {line.subject: line.entered_at for line in lines if line.subject not in (None, REPORT)}
     missing = [subject.name for subject, entered_at in last.items() if entered_at is None]
     older = [f'{subject.name} as on line {entered_at}' for subject, entered_at in last.items()
              if entered_at is not None]
+    later = [line.number for line in lines if line.number in mended]
     return sentence(f'so these are not entered: {listed(missing)}' if missing else '',
-                    f'these still count as entered before: {listed(older)}' if older else '')
+                    f'these still count as entered before: {listed(older)}' if older else '',
+                    f'mended later: {lines_named(later)}' if later else '')
 
 
 # 3. A report

@@ -165,9 +165,10 @@ def stories(checks: Checks):
                         (EXAMPLE.replace(b'\n', b'\r'), 'The lines end with CR alone')):
         for written in (text.written(explain(data)), page.written(explain(data))):
             checks.equal(words, words in written, True)
-    again = text.written(explain(lines(COUNTS, *3 * [MISTYPED])))
-    checks.equal('what still counts after them',
-                 'These still count as entered before: source 0 as on line 1.' in again, True)
+    again = text.written(explain(lines(COUNTS, *3 * [MISTYPED], COUNTS)))
+    checks.equal('what still counts after them, and that they were mended',
+                 lacking(['These still count as entered before: source 0 as on line 1.',
+                          'Mended later: lines 2 to 4.'], again), [])
 
 
 # 3. Nothing is shown that was not checked
