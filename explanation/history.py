@@ -40,6 +40,9 @@ class Subject(NamedTuple):
         return f'the {self.kind}' if self.number is None else f'{self.kind} {self.number}'
 
 
+REPORT = Subject('report')
+
+
 class RefusedLine(NamedTuple):
     number: int  # of the line, from 1
     typed: bytes
@@ -175,7 +178,7 @@ class Walker:
             self.refuse(number, line, answer, intent_of(line))
 
     def report(self, number: int, given: Report):
-        self.mend(Subject('report'), number)
+        self.mend(REPORT, number)
         answer, missing = reference.answer_text(given).rstrip('\n'), self.missing()
         before = self.reports[-1] if self.reports else None
         if before and (before.answer, before.entered_at, before.missing) == (
@@ -226,7 +229,7 @@ class Walker:
             refused = f'{lines_named(lines)} {"was" if len(lines) == 1 else "were"} refused'
             if subject is None:
                 words.append(f'{refused}, and it cannot be told what was to be entered')
-            elif subject.kind != 'report':
+            elif subject != REPORT:
                 words.append(f'{refused}: {what_counts(subject, self.entered_at.get(subject))}')
         return words
 

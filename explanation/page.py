@@ -97,7 +97,7 @@ def report_section(report: GivenReport, seen: dict) -> Element:
     parts.append(card(reduction_title(followed.reduction), reduction_picture(followed),
                       small(reduction_words(followed))))
     blocks, before = new_blocks(seen, report)
-    parts += [element('h2', 'Step by step'), small(LEGEND)]
+    parts += [element('h2', 'Step by step'), small(LEGEND)] if blocks else []
     for block in blocks:
         parts += block_parts(block)
     parts += [small(before)] if before else []

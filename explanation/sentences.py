@@ -6,13 +6,12 @@ from typing import NamedTuple
 
 from explanation import steps
 from explanation.decimals import MILLION, counted, lines_named, listed, ranges, shown
-from explanation.history import GivenReport, History, RefusedLine, Subject, what_counts
+from explanation.history import REPORT, GivenReport, History, RefusedLine, Subject, what_counts
 from explanation.lines import Finding
 from explanation.rows import Followed, Row, SidePart, SitePart, SourcePart, rounding
 from tests.reference import reference
 from tests.reference.reference import DEFAULT_SUPPLIES, GRID_SUPPLIES, Ledger, Source, rounds_up
 
-REPORT = Subject('report')
 TONNE_DECIMALS = 6  # of a value in tonnes: grams
 GRAM_DECIMALS = 3
 MOST_ADDED = 8  # sources of a side whose grams are shown one by one

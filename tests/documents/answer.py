@@ -382,16 +382,21 @@ READINGS_BROKEN = [*2 * [[False, True, True, False]], *2 * [[True, False, False,
                    [True, True, False, False], 4 * [False]]
 
 
-def numbers_as_text() -> list[str]:
-    """Texts of this file that hold a number which is no part of a name or of a format."""
-    tree = ast.parse(Path(__file__).read_text(encoding='utf-8'))
-    documented = {id(node.body[0].value) for node in ast.walk(tree)
-                  if isinstance(node, (ast.Module, ast.FunctionDef, ast.ClassDef))
-                  and ast.get_docstring(node) is not None}
+NO_NUMBERS = 'document 01|demand-3|CO2|python3|utf-8'  # names that hold digits
+
+
+def numbers_as_text(path: Path, names: str = NO_NUMBERS) -> list[str]:
+    """Texts of a module that hold a number which is no part of these names; docstrings and the
+    figures of examples, which are computed with, are left out."""
+    tree = ast.parse(path.read_text(encoding='utf-8'))
+    left_out = {id(node.body[0].value) for node in ast.walk(tree)
+                if isinstance(node, (ast.Module, ast.FunctionDef, ast.ClassDef))
+                and ast.get_docstring(node) is not None}
+    left_out |= {id(part) for node in ast.walk(tree) if isinstance(node, ast.Call)
+                 and ast.unparse(node.func) == 'example' for part in node.args}
     texts = [node.value for node in ast.walk(tree) if isinstance(node, ast.Constant)
-             and isinstance(node.value, str) and id(node) not in documented]
-    names = r'document 01|demand-3|demand 3|CO2|python3|utf-8|08x'
-    return [text for text in texts if text != '0' and re.search(r'\d', re.sub(names, '', text))]
+             and isinstance(node.value, str) and id(node) not in left_out]
+    return [text for text in texts if re.search(r'\d', re.sub(names, '', text))]
 
 
 def self_test() -> int:
@@ -399,7 +404,7 @@ def self_test() -> int:
     row = Row('grams', 'grams', '', Fraction(0), 0, Fraction(0), Fraction(2), 'g')
     eighths, sevenths = ([Fraction(n, d) for n in range(-d, d) if n] for d in (8, 7))
     wanted = {
-        'no number stands as text': not numbers_as_text(),
+        'no number stands as text': not numbers_as_text(Path(__file__)),
         'a row of a fuel line of each kind stands':
             [lines_standing(side) for side in SIDES] == [3 * [True]] * len(SIDES),
         'a slip of fuel lines lets no row stand, of any kind, on the side that it breaks':

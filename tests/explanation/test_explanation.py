@@ -8,7 +8,6 @@ was not checked.
 Prints each failure and, last, `N passed, M failed`.
 """
 
-import ast
 import re
 import shutil
 import subprocess
@@ -217,14 +216,16 @@ def numbers_in(element: Element) -> list[float]:
             for number in re.findall(r'[-−]?[0-9](?:[0-9,]*[0-9])?(?:\.[0-9]+)?', part)]
 
 
+# Where a mark points to, by its shape: a circle, a square of 18, the top of a triangle.
+POINTED = {'circle': lambda mark: float(mark.get('cx')),
+           'rect': lambda mark: float(mark.get('x')) + 9,
+           'path': lambda mark: float(mark.get('d').split(' ')[4].removeprefix('L'))}
+
+
 def marks(svg: Element, kind: str) -> list[float]:
-    """Where the marks of a kind are, from the line above to the one below."""
-    found = []
-    for each in svg.iter():
-        if each.get('class') == kind and each.tag != 'text':
-            found.append(float(each.get('cx') or 0) or float(each.get('x') or 0) + 9
-                         if each.tag != 'path' else float(each.get('d').split(' ')[4][1:]))
-    return found
+    """Of a kind, from the line above to the one below."""
+    return [POINTED[each.tag](each) for each in svg.iter()
+            if each.get('class') == kind and each.tag in POINTED]
 
 
 def picture_faults(svg: Element) -> Iterator[str]:
@@ -285,6 +286,18 @@ def keep():
         path.write_text(ElementTree.tostring(svg, encoding='unicode') + '\n', encoding='utf-8')
 
 
+def broken_pictures(checks: Checks):
+    """A picture that tells something else is found."""
+    at, example = picture.Axis.at, explain(EXAMPLE)
+    for name, broken in (('mirrored', lambda axis, value: picture.WIDTH - at(axis, value)),
+                         ('another scale for what is printed',
+                          lambda axis, value: at(axis, value) * (0.9 if type(value) is int else 1)),
+                         ('drawn outside', lambda axis, value: at(axis, value) + 1_000)):
+        with mock.patch.object(picture.Axis, 'at', broken):
+            checks.equal(f'{name}: not found', bool([*page_faults(example)]), True)
+    checks.equal('faults of the example', [*page_faults(example)], [])
+
+
 def pictures(checks: Checks):
     for path, svg in kept_pictures().items():
         kept = ElementTree.fromstring(path.read_text(encoding='utf-8'))
@@ -343,24 +356,17 @@ def generated(checks: Checks, seeds: int):
 # 6. The words themselves
 
 # Digits that are no limit: names, formats, patterns, the least numbers 0 and 1.
-NO_LIMITS = re.compile(r'default20|default3|demand[- ]3|utf-8|UTF-8|UTF-16|SHA-256|CO2|08x|0x|[.]1f'
-                       r'|\[[^\]]*\]|\{[0-9,]*\}|\\[a-z0-9]+|(?<![0-9.])[01](?!\.?[0-9])')
+NO_LIMITS = (r'default20|default3|demand[- ]3|utf-8|UTF-8|UTF-16|SHA-256|CO2|08x|0x|[.]1f'
+             r'|\[[^\]]*\]|\{[0-9,]*\}|\\[a-z0-9]+|(?<![0-9.])[01](?!\.?[0-9])')
 WORDS = ('steps', 'rows', 'figures', 'lines', 'forms', 'meant', 'refusals', 'sentences', 'history')
 
 
 def no_limit_as_text(checks: Checks):
     """Each limit that words quote is a name of the reference, not a number in the words."""
     for name in WORDS:
-        tree = ast.parse((ROOT / 'explanation' / f'{name}.py').read_text(encoding='utf-8'))
-        documented = {id(node.body[0].value) for node in ast.walk(tree)
-                      if isinstance(node, (ast.Module, ast.FunctionDef, ast.ClassDef))
-                      and ast.get_docstring(node) is not None}
-        examples = {id(part) for node in ast.walk(tree) if isinstance(node, ast.Call)
-                    and ast.unparse(node.func) == 'example' for part in node.args}
-        found = [node.value for node in ast.walk(tree) if isinstance(node, ast.Constant)
-                 and isinstance(node.value, str) and id(node) not in documented | examples
-                 and re.search('[0-9]', NO_LIMITS.sub('', node.value))]
-        checks.equal(f'numbers in the words of {name}.py', found, [])
+        path = ROOT / 'explanation' / f'{name}.py'
+        checks.equal(f'numbers in the words of {name}.py',
+                     answer.numbers_as_text(path, NO_LIMITS), [])
 
 
 # 7. The program
@@ -429,8 +435,8 @@ def main(arguments: list[str]) -> int:
         keep()
         return 0
     checks = Checks()
-    for part in (hand_words, stories, slips, other_answers, pictures, no_limit_as_text, program,
-                 in_a_shell, beside_another_tally):
+    for part in (hand_words, stories, slips, other_answers, pictures, broken_pictures,
+                 no_limit_as_text, program, in_a_shell, beside_another_tally):
         part(checks)
     generated(checks, int(arguments[0]) if arguments else SEEDS)
     print(f'{checks.passed} passed, {checks.failed} failed')
