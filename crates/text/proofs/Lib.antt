@@ -7,5 +7,6 @@ pub mod Decimals
 pub mod Signed
 pub mod Registers
 pub mod Pieces
+pub mod Plain
 pub mod Templates
 pub mod Examples
