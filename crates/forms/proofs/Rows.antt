@@ -8,7 +8,7 @@ use native.Mathlib.Omega.{arith}
 use lib.Dec.{leb}
 use lib.ListN.{drop}
 use borrow.Author.Tests.{le-leb, lt-leb, leb-true}
-use Rattle.text.specs.Template.{Read, mapRead, templateAt}
+use Rattle.text.specs.Template.{Read, mapRead, templateIn, templateAt}
 use Rattle.text.specs.declared.Numbers.{Numbers}
 use Rattle.text.specs.declared.Match.{Match}
 use Rattle.text.specs.declared.Match.the-variants as match
@@ -39,6 +39,26 @@ module _ {A : Type 0} (r : Row A) (rows : List (Row A)) (s : List ℕ) (at : ℕ
 pub no-row : {A : Type 0} (t : List ℕ) → oneOf {A = A} [] t ≡ none
 unfolding oneOf
 no-row t = refl
+
+module _ {A : Type 0} (r : Row A) where
+  -- What the first row reads is what the table reads.
+  pub first-row : (rows : List (Row A)) (t : List ℕ) {q : Read A} → some q ≡ mapRead (r .value) (templateIn (r .template) t) → some q ≡ oneOf (r ∷ rows) t
+  unfolding oneOf
+  first-row rows t e = rw (← e)
+
+  -- Where it reads nothing, the rows after it read.
+  pub after-row : (rows : List (Row A)) (t : List ℕ) → none ≡ mapRead (r .value) (templateIn (r .template) t) → oneOf (r ∷ rows) t ≡ oneOf rows t
+  unfolding oneOf
+  after-row rows t e = rw (← e)
+
+  -- The last row reads what is left of the table.
+  pub last-row : (t : List ℕ) → oneOf (r ∷ []) t ≡ mapRead (r .value) (templateIn (r .template) t)
+  unfolding oneOf
+  last-row t = go (mapRead (r .value) (templateIn (r .template) t))
+    where
+      go : (a : Option (Read A)) → orElse a none ≡ a
+      go none = refl
+      go (some q) = refl
 
 module _ {A B : Type 0} (f : A → B) (rows more : List (Row A)) (t : List ℕ) where
   -- What the first of two tables reads is what both read.

@@ -71,23 +71,6 @@ pub fn read_fuels(line: &[u8], at: usize) -> Fuels
     fuels
 }
 
-// One meter more; of those after the fourth only the count is kept.
-fn with_meter(meters: Meters, meter: Meter, next: usize) -> Meters
-    requires { ⌜ meters .count + 1 < 2 ^ 64 ⌝ }
-    ensures meters { λ r. ⌜ r .meters ≡ keptAt (meters .count) (meters .meters) meter ⌝ }
-    ensures count { λ r. ⌜ r .count ≡ meters .count + 1 ⌝ }
-    ensures next { λ r. ⌜ r .next ≡ next ⌝ }
-{
-    let count = meters.count;
-    let mut more = meters;
-    if count < Meter::PLACES {
-        more.meters[count] = meter;
-    }
-    more.count = count + 1;
-    more.next = next;
-    more
-}
-
 // Reads meters: as many as stand at a place.
 pub fn read_meters(line: &[u8], at: usize) -> Meters
     ensures meters { λ r. ⌜ r .meters ≡ fourOf noMeter (map fittedMeterOf (manyOf meters (drop at (now (line .entry))) .value)) ⌝ }
@@ -95,19 +78,22 @@ pub fn read_meters(line: &[u8], at: usize) -> Meters
     ensures rest { λ r. ⌜ drop (r .next) (now (line .entry)) ≡ manyOf meters (drop at (now (line .entry))) .rest ⌝ }
 {
     let none = Meter::empty();
-    let mut meters = Meters {
-        meters: [none; Meter::PLACES],
-        count: 0,
-        next: at,
-    };
-    let mut turn: usize = 0;
-    while turn < line.len() {
-        let place = meters.next;
-        let MeterRead::Found(meter, next) = read_meter(line, place) else {
-            return meters;
+    let mut meters = [none; Meter::PLACES];
+    let mut count: usize = 0;
+    let mut next = at;
+    while count < line.len() {
+        let MeterRead::Found(meter, after) = read_meter(line, next) else {
+            break;
         };
-        meters = with_meter(meters, meter, next);
-        turn += 1;
+        if count < Meter::PLACES {
+            meters[count] = meter;
+        }
+        count += 1;
+        next = after;
     }
-    meters
+    Meters {
+        meters,
+        count,
+        next,
+    }
 }

@@ -3,7 +3,7 @@
 ghost use mathlib.Core.Path.{_≡_};
 ghost use mathlib.Core.Option.{some};
 ghost use lib.ListN.{drop};
-ghost use Rattle.text.specs.Template.{mapRead};
+ghost use Rattle.text.specs.Template.{mapRead, templateIn};
 ghost use Rattle.forms.specs.Form.{whole, single};
 ghost use Rattle.forms.specs.Reading.{
   oneOf,
@@ -129,16 +129,23 @@ pub fn word_field(number: u64) -> u32
     at_most(number, LARGEST_WORD) as u32
 }
 
+// A kind of grid by its word. A function of its own, so that what the two words take of the stack is taken once.
+fn read_kind_word(line: &[u8], at: usize, word: &[u8], kind: GridKind) -> KindRead
+    ensures { λ r. ⌜ kindMeaning (now (line .entry)) r ≡ mapRead (λ n. kind) (templateIn (now (word .entry)) (drop at (now (line .entry)))) ⌝ }
+{
+    if let Match::Match(_, next) = text::read_template(line, at, word) {
+        return KindRead::Found(kind, next);
+    }
+    KindRead::Missing
+}
+
 pub fn read_kind(line: &[u8], at: usize) -> KindRead
     ensures { λ r. ⌜ kindMeaning (now (line .entry)) r ≡ oneOf kinds (drop at (now (line .entry))) ⌝ }
 {
-    if let Match::Match(_, next) = text::read_template(line, at, b"thermal") {
-        return KindRead::Found(GridKind::Thermal, next);
+    if let KindRead::Found(kind, next) = read_kind_word(line, at, b"thermal", GridKind::Thermal) {
+        return KindRead::Found(kind, next);
     }
-    if let Match::Match(_, next) = text::read_template(line, at, b"hydro") {
-        return KindRead::Found(GridKind::Hydro, next);
-    }
-    KindRead::Missing
+    read_kind_word(line, at, b"hydro", GridKind::Hydro)
 }
 
 pub fn read_side(line: &[u8], at: usize) -> SideRead

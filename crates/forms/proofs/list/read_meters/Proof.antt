@@ -1,7 +1,9 @@
 -- `forms::list::read_meters` meets its contract: what is left gives what the whole gives. Assumes nothing.
 use borrow.Author.Needs.{needs}
-use mathlib.Core.Path.{_≡_, refl, sym, ap, _∙_}
-use Prim.Native.Nat.{ℕ, _+_, _-_, _≤_}
+use borrow.Author.Tests.{lt-ltb, le-ltb}
+use mathlib.Core.Path.{_≡_, sym, ap, _∙_}
+use mathlib.Core.Logic.{⊎-elim}
+use Prim.Native.Nat.{_-_, _≤_}
 use native.Mathlib.Nat.{sub-zero}
 use native.Mathlib.Omega.{arith}
 use lib.ListN.{length, drop}
@@ -9,20 +11,19 @@ use denote.Ref.{now}
 use Rattle.metering.specs.Energy.{noMeter}
 use Rattle.forms.specs.Reading as reading
 use Rattle.forms.specs.Calls.{fittedMeterOf}
-use Rattle.forms.specs.Steps.{meterMeaning}
+use Rattle.forms.specs.Steps.{meterMeaning, keptAt}
 use Rattle.forms.proofs.Lists.{meters-take, within-length, Amounts, left-whole, left-end, left-none, left-one}
 use Rattle.forms.proofs.list.read_meters.Statement.{statement}
 use Rattle.forms.proofs.list.read_meters.Tie as tie
 
 abbrev Inv-loop : tie.InvT-loop
-Inv-loop line at meters₀ turn₀ meters turn =
-    (turn ≤ length line)
-    × (meters .count ≡ turn)
-    × Amounts fittedMeterOf noMeter (reading.manyOf reading.meters (drop at line)) (meters .count) (meters .meters)
-    (reading.manyWithin reading.meters (length line - turn) (drop (meters .next) line))
+Inv-loop line at meters₀ count₀ next₀ meters count next =
+    (count ≤ length line)
+    × Amounts fittedMeterOf noMeter (reading.manyOf reading.meters (drop at line)) count meters
+    (reading.manyWithin reading.meters (length line - count) (drop next line))
 
 abbrev μ-loop : tie.MeasureT-loop
-μ-loop line at meters₀ turn₀ meters turn = length line - turn
+μ-loop line at meters₀ count₀ next₀ meters count next = length line - count
 
 empty-requires : tie.Need-empty-requires Inv-loop μ-loop
 empty-requires c κs = search needs
@@ -30,7 +31,7 @@ empty-requires c κs = search needs
 loop-holds : tie.Need-loop-holds Inv-loop μ-loop
 loop-holds c =
     let a = c .before .before .args in
-    rw (c .empty .ensures) (omega arith, refl, left-whole reading.meters fittedMeterOf noMeter _ _ (rw sub-zero (within-length reading.meters meters-take (now (a .line)) (a .at))))
+    rw (c .empty .ensures) (omega arith, left-whole reading.meters fittedMeterOf noMeter _ _ (rw sub-zero (within-length reading.meters meters-take (now (a .line)) (a .at))))
 
 read-meter-requires : tie.Need-read-meter-requires Inv-loop μ-loop
 read-meter-requires c κs = search needs
@@ -41,19 +42,14 @@ enum-known-meter c = search needs
 enum-told : tie.Need-enum-told Inv-loop μ-loop
 enum-told c = search needs
 
-returns : tie.Need-returns Inv-loop μ-loop
-returns c =
-    let s = now (c .before .before .before .before .before .before .before .args .line) in
-    let l = c .before .before .before .before .loop in
-    left-none reading.meters fittedMeterOf noMeter _ (l .meters .count) (l .meters .meters) _ _
-    (sym (ap (meterMeaning s) (c .enum-told .given .1)) ∙ c .before .before .read-meter .ensures)
-    (l .inv .2)
+mul-meters : tie.Need-mul-meters Inv-loop μ-loop
+mul-meters c = search needs
 
-with-meter-requires : tie.Need-with-meter-requires Inv-loop μ-loop
-with-meter-requires c κs = omega arith
+array-set-from-meters : tie.Need-array-set-from-meters Inv-loop μ-loop
+array-set-from-meters c = search needs
 
-add-turn : tie.Need-add-turn Inv-loop μ-loop
-add-turn c = search needs
+add-count : tie.Need-add-count Inv-loop μ-loop
+add-count c = search needs
 
 loop-less : tie.Need-loop-less Inv-loop μ-loop
 loop-less c = omega arith
@@ -62,19 +58,29 @@ loop-again : tie.Need-loop-again Inv-loop μ-loop
 loop-again c =
     let s = now (c .before .before .before .before .before .before .before .before .before .args .line) in
     let l = c .before .before .before .before .before .before .loop in
-    let w = c .with-meter .ensures in (
+    let m = c .before .before .meter .given in
+    let k : c .if1 .meters ≡ keptAt (l .count) (l .meters) (m .0 .0) =
+    ⊎-elim (λ w. rw (lt-ltb (l .count) 4 (w .0 .taken), w .1)) (λ w. rw (le-ltb (l .count) 4 (w .0 .left), w .1)) (c .if1 .came)
+    in (
       omega arith,
-      w .1 .0 ∙ ap (λ (n : ℕ). n + 1) (l .inv .1),
-      rw (w .0, w .1 .0, w .1 .1)
-          (left-one reading.meters fittedMeterOf noMeter _ (l .meters .count) (l .meters .meters) _ _ s _ _ (c .before .before .meter .given .0 .1 .0) (omega arith)
-          (sym (ap (meterMeaning s) (c .before .before .meter .given .1)) ∙ c .before .before .before .before .read-meter .ensures)
-          (l .inv .2)),
+      rw k
+          (left-one reading.meters fittedMeterOf noMeter _ (l .count) (l .meters) _ _ s _ _ (m .0 .1 .0) (omega arith)
+          (sym (ap (meterMeaning s) (m .1)) ∙ c .before .before .before .before .read-meter .ensures)
+          (l .inv .1)),
     )
+
+returns : tie.Need-returns Inv-loop μ-loop
+returns c =
+    let l = c .before .loop in
+    left-end reading.meters fittedMeterOf noMeter _ (l .count) (l .meters) _ _ (omega arith) (l .inv .1)
 
 returns-2 : tie.Need-returns-2 Inv-loop μ-loop
 returns-2 c =
-    let l = c .before .loop in
-    left-end reading.meters fittedMeterOf noMeter _ (l .meters .count) (l .meters .meters) _ _ (omega arith) (l .inv .2)
+    let s = now (c .before .before .before .before .before .before .before .args .line) in
+    let l = c .before .before .before .before .loop in
+    left-none reading.meters fittedMeterOf noMeter _ (l .count) (l .meters) _ _
+    (sym (ap (meterMeaning s) (c .enum-told .given .1)) ∙ c .before .before .read-meter .ensures)
+    (l .inv .1)
 
 pub read-meters-spec : {M : Type 1} → statement M
 read-meters-spec =
@@ -87,9 +93,10 @@ read-meters-spec =
     read-meter-requires
     enum-known-meter
     enum-told
-    returns
-    with-meter-requires
-    add-turn
+    mul-meters
+    array-set-from-meters
+    add-count
     loop-less
     loop-again
+    returns
     returns-2)
