@@ -19,9 +19,14 @@ import module
 
 BOX = Path(__file__).resolve().parent
 FEW = re.compile(r'listing|example|full|random-700[0-2]')  # inputs
+PEERS = ('gcc', 'clang')
 
 # The default loss, the function of its rule, and the slip.
 LOSS, RULE, SLIP = ' i16 2000,', '@"emissions::default_loss_20"(', ' i16 2001,'
+# The same in the plain C. RAM that is too small for it.
+LOSS_IN_C, SLIP_IN_C, LITTLE_RAM = '*loss = 2000;', '*loss = 2001;', 2_048
+# In the proved division, what is done for a million, by which crates/text does not call it; a slip.
+SIXTEENTH, EIGHTH = ' = udiv i64 %a0, 16\n', ' = udiv i64 %a0, 8\n'
 
 # Scripts in place of QEMU: what they do, and how it is caught. PANEL is the x86-64 program.
 MARK = "echo 'stack 00000800 of 00001000' >&2"
@@ -56,7 +61,8 @@ READS_AT = 'int main(void) { return *(volatile int *)(0x20000000 + %d); }'
 OUTSIDE = ('@number = constant ptr null', 'module asm "nop"')
 WITHIN = ('%x = ptrtoint ptr null to i64', '%x = inttoptr i64 0 to ptr',
           'call void asm "nop", ""()', 'call void %x()', 'indirectbr ptr null, []',
-          '%x = getelementptr ptr, ptr null, i64 1', '%x = alloca { ptr, i64 }, align 8')
+          '%x = getelementptr ptr, ptr null, i64 1', '%x = alloca { ptr, i64 }, align 8',
+          '%x = udiv exact i64 %a0, 10', '%x = udiv i64 10, %a0', '%x = udiv i64 %a0, -10')
 OTHERS = (
     ('another layout', 'e-m:e-', 'E-m:e-'),
     ('another triple', 'x86_64-unknown', 'aarch64-unknown'),
@@ -64,6 +70,11 @@ OTHERS = (
     ('a second processor', module.PROCESSOR, module.PROCESSOR * 2),
     ('a pointer read as bytes', 'start:\n',
      'start:\n  %x = alloca ptr, align 8\n  call void @f(ptr %x)\n'),
+    ('no proved division', module.DEFINED, module.DEFINED.replace(module.DIVISION, 'other')),
+    ('a second proved division', module.DEFINED,
+     f'{module.DEFINED}{{\nstart:\n  ret i64 %a0\n}}\n\n{module.DEFINED}'),
+    ('a proved division of other numbers', module.DEFINED,
+     module.DEFINED.replace('i64 noundef %a1', 'i32 noundef %a1')),
     ('the sign of a module that was not proved', module.PROVED, '!{!"rattle-cases'))
 
 
@@ -73,6 +84,12 @@ def with_slip(text: str) -> str:
     if not functions or any(RULE not in part.split('\n')[0] for part in functions):
         raise module.Unexpected(f'{len(functions)} functions have the default loss of 2,000')
     return text.replace(LOSS, SLIP)
+
+
+def with_slip_in_division(text: str) -> str:
+    before, after = text.split(module.DEFINED)
+    own, end, others = after.partition('\n}\n')
+    return before + module.DEFINED + module.edited(own, SIXTEENTH, EIGHTH) + end + others
 
 
 class SelfTest:
@@ -101,6 +118,18 @@ class SelfTest:
 
     def built_from_c(self, source: str) -> Path:
         return self.built(module.compiled(source, '-O1', '-fno-builtin', '-fshort-enums'), self.ram)
+
+    def built_peer(self, compiler: str, loss: str = LOSS_IN_C, ram: int | None = None) -> Path:
+        """The plain C as firmware."""
+        root, elf = self.folder / 'plain', self.folder / f'{compiler}.elf'
+        source, rules = root / 'box/plain_panel.c', root / 'measure/plain_tally.c'
+        for path in (source, rules):
+            path.parent.mkdir(parents=True, exist_ok=True)
+            shutil.copy(BOX.parent / path.relative_to(root), path)
+        rules.write_text(module.edited(rules.read_text(), LOSS_IN_C, loss))
+        subprocess.run([BOX / 'peer', source, compiler, elf, self.level, str(ram or self.ram)],
+                       check=True)
+        return elf
 
     def compare(self, elf: Path, *words: str, program: Path | None = None, path: str = '') -> str:
         """What compare.py prints on few inputs, and its status."""
@@ -140,6 +169,27 @@ class SelfTest:
                      self.compare(self.built(text, ram), f'--ram={ram}'))
         self.catches(f'a default loss of 2,001 at the {text.count(LOSS)} places of its rule',
                      'the answers differ', self.compare(self.built(with_slip(text), self.ram)))
+        self.catches('a slip in the proved division, which is called where the module divides',
+                     'the answers differ',
+                     self.compare(self.built(with_slip_in_division(text), self.ram)))
+
+    def peers(self, text: str):
+        """As they are, and each with a slip beside the other without one."""
+        elf = self.built(text, self.ram)
+        words = [f'--peer={name}={self.built_peer(name)}' for name in PEERS]
+        printed = self.compare(elf, *words)
+        is_right = (all(f'times {name}' in printed for name in PEERS)
+                    and printed.endswith(' 0 failed\nstatus 0\n'))
+        self.count('the peers without a slip', '' if is_right else textwrap.indent(printed, '    '),
+                   'right')
+        for name in PEERS:
+            self.built_peer(name, loss=SLIP_IN_C)
+            self.catches(f'a default loss of 2,001 in the plain C by {name}',
+                         f'peer {name}: the answers differ', self.compare(elf, *words))
+            self.built_peer(name, ram=LITTLE_RAM)
+            self.catches(f'the plain C by {name} with a stack that leaves RAM',
+                         f'peer {name}: the firmware faults', self.compare(elf, *words))
+            self.built_peer(name)
 
     def stand_ins(self, text: str):
         elf = self.built(text, self.ram)
@@ -202,6 +252,7 @@ def main() -> int:
     test = SelfTest(Path(sys.argv[1]), sys.argv[2], int(sys.argv[3]))
     text = (test.folder / 'module/module.ll').read_text()
     test.slips(text)
+    test.peers(text)
     test.stand_ins(text)
     test.unmeasurable()
     test.machine_itself()

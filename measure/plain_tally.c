@@ -5,8 +5,10 @@
 #include <stdbool.h>
 #include <stddef.h>
 #include <stdint.h>
+#ifndef FIRMWARE // box/plain_panel.c, which has its own input and output and no C library
 #include <stdio.h>
 #include <string.h>
+#endif
 
 typedef uint64_t u64;
 
@@ -38,7 +40,11 @@ struct ledger { struct grid grid; struct plant plants[PLANTS]; struct source sou
 // ---- The output: an input line has at least one byte and its answer at most "refused 14\n", save for a
 // report, whose line has at least 8 bytes and whose answer has fewer than 144.
 
+#ifdef FIRMWARE
+static char output[144]; // of one line
+#else
 static char output[18 * (INPUT_LIMIT + 1)];
+#endif
 static size_t written;
 
 static void put(const char *text) {
@@ -537,6 +543,7 @@ static void answer(struct ledger *l, struct text line) {
     put("\n");
 }
 
+#ifndef FIRMWARE
 // "lines ended by LF (the last may lack it)"
 static void answer_lines(const char *input, size_t size) {
     static struct ledger ledger;
@@ -560,3 +567,4 @@ int main(void) {
     tally();
     return fwrite(output, 1, written, stdout) == written ? 0 : 1;
 }
+#endif
