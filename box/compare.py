@@ -30,8 +30,6 @@ SHOWN = 10  # inputs that fail
 # What the x86-64 program has to answer here: two programs that print nothing would be alike.
 KNOWN = {'example': re.escape((ROOT / 'examples/site.out').read_bytes()),
          'full': rb'(ok\n){41}project .*\nleakage .*\nbaseline .*\nreduction .*\n'}
-
-
 OURS = 'panel'  # beside the names of the peers
 LINES = ('report', 'source', 'plant')
 
@@ -187,7 +185,7 @@ def beside_peers(given: argparse.Namespace, marks: dict[str, int], full: bytes,
 
 
 def rows(found: list[Figures]) -> dict[str, list[float | None]]:
-    """By their titles: a number with a decimal point is one of milliseconds."""
+    """By their titles."""
     table = {'flash, bytes': [one.flash for one in found],
              'static RAM, bytes': [one.static for one in found],
              'stack, largest mark': [one.mark for one in found],
