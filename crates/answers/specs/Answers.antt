@@ -1,41 +1,41 @@
 -- What the answers to a line mean, and their text (document 01, "The text the program tally reads": "Each line prints .."), part by part.
 use Rattle.std.specs.Prelude.{ℕ, List, [], ◌∷◌, ◌++◌}
 use Rattle.text.specs.Word.{bytes}
-use Rattle.text.specs.Decimal.{decimal, signedDecimal}
-use Rattle.text.specs.Parts.{joinedText}
-use Rattle.report.specs.Report.{SideReport, Report, Reply, ok, refusedWith, refusedAt, reported, damaged}
-use Rattle.report.specs.Answers.{reportIn}
+use Rattle.text.specs.Decimal.{decimal, signed_decimal}
+use Rattle.text.specs.Parts.{joined_text}
+use Rattle.report.specs.Report.{SideReport, Report, Reply, ok, refused_with, refused_at, reported, damaged}
+use Rattle.report.specs.Answers.{report_in}
 use Rattle.answers.specs.declared.line.Reply as line
 use Rattle.answers.specs.declared.line.Reply.TheVariants as answer
 
 -- The paper's number and values of each case of an answer of the code.
-abbrev pub replyMeaning : line.Reply → Reply
-replyMeaning answer.Accepted = ok
-replyMeaning (answer.Refused n) = refusedWith n
-replyMeaning (answer.RefusedAt n k) = refusedAt n k
-replyMeaning (answer.Given r) = reported (reportIn r)
-replyMeaning answer.Damaged = damaged
+abbrev pub reply_meaning : line.Reply → Reply
+reply_meaning answer.Accepted = ok
+reply_meaning (answer.Refused n) = refused_with n
+reply_meaning (answer.RefusedAt n k) = refused_at n k
+reply_meaning (answer.Given r) = reported (report_in r)
+reply_meaning answer.Damaged = damaged
 
 -- "side, tonnes, grams, sources".
-abbrev pub sideParts : List ℕ → SideReport → List (List ℕ)
-sideParts side s = side ∷ decimal s.tonnes ∷ bytes " " ∷ decimal s.grams ∷ bytes " " ∷ decimal s.sources ∷ bytes "\n" ∷ []
+abbrev pub side_parts : List ℕ → SideReport → List (List ℕ)
+side_parts side s = side ∷ decimal s.tonnes ∷ bytes " " ∷ decimal s.grams ∷ bytes " " ∷ decimal s.sources ∷ bytes "\n" ∷ []
 
 -- "four lines: side, tonnes, grams, sources; then reduction".
-unfoldable pub reportParts : Report → List (List ℕ)
-reportParts r =
-    sideParts (bytes "project ") r.project
-    ++ (sideParts (bytes "leakage ") r.leakage
-    ++ (sideParts (bytes "baseline ") r.baseline
-    ++ (bytes "reduction " ∷ signedDecimal r.reduction ∷ bytes "\n" ∷ [])))
+unfoldable pub report_parts : Report → List (List ℕ)
+report_parts r =
+    side_parts (bytes "project ") r.project
+    ++ (side_parts (bytes "leakage ") r.leakage
+    ++ (side_parts (bytes "baseline ") r.baseline
+    ++ (bytes "reduction " ∷ signed_decimal r.reduction ∷ bytes "\n" ∷ [])))
 
 -- "Each line prints `ok`, `refused N`, or for a report `refused N source K` (no source part with 13) or four lines". No list of calls is
 -- answered `damaged` (`never-damaged`).
-unfoldable pub replyParts : Reply → List (List ℕ)
-replyParts ok = bytes "ok\n" ∷ []
-replyParts (refusedWith n) = bytes "refused " ∷ decimal n ∷ bytes "\n" ∷ []
-replyParts (refusedAt n k) = bytes "refused " ∷ decimal n ∷ bytes " source " ∷ decimal k ∷ bytes "\n" ∷ []
-replyParts (reported r) = reportParts r
-replyParts damaged = bytes "damaged\n" ∷ []
+unfoldable pub reply_parts : Reply → List (List ℕ)
+reply_parts ok = bytes "ok\n" ∷ []
+reply_parts (refused_with n) = bytes "refused " ∷ decimal n ∷ bytes "\n" ∷ []
+reply_parts (refused_at n k) = bytes "refused " ∷ decimal n ∷ bytes " source " ∷ decimal k ∷ bytes "\n" ∷ []
+reply_parts (reported r) = report_parts r
+reply_parts damaged = bytes "damaged\n" ∷ []
 
-abbrev pub replyText : Reply → List ℕ
-replyText r = joinedText (replyParts r)
+abbrev pub reply_text : Reply → List ℕ
+reply_text r = joined_text (reply_parts r)

@@ -4,8 +4,8 @@ pub mod line;
 
 ghost use Rattle.std.specs.Prelude.{◌≡◌, ◌+◌, ◌*◌, ◌≤◌, length, drop};
 ghost use Rattle.text.specs.Buffer.{put_at};
-ghost use Rattle.answers.specs.Input.{inputLimit, bytesForEach, output, written, bufferAfter};
-ghost use Rattle.answers.specs.Steps.{firstLine};
+ghost use Rattle.answers.specs.Input.{input_limit, bytes_for_each, output, written, buffer_after};
+ghost use Rattle.answers.specs.Steps.{first_line};
 
 use crate::line::{Reply, entry_reply, plant_after, put_reply, report_on, source_after};
 use forms::Kind;
@@ -32,7 +32,7 @@ impl Written {
 // Where the line that begins at a place ends: at its LF, or at the end.
 fn line_end(input: &[u8], at: usize) -> usize
     requires { at ≤ length input.now }
-    ensures { result ≡ at + length (firstLine (drop at input.now)) }
+    ensures { result ≡ at + length (first_line (drop at input.now)) }
 {
     let mut i = at;
     while i < input.len() {
@@ -47,8 +47,8 @@ fn line_end(input: &[u8], at: usize) -> usize
 // Answers the lines of an input one after the other. It keeps the ledger and stores the record that a line
 // leaves, as the program panel does: the ledger is neither handed on nor given back.
 fn answer_lines(input: &[u8], buffer: &mut [u8]) -> usize
-    requires input_len_bound { length input.now ≤ inputLimit }
-    requires input_in_bounds { bytesForEach * length input.now ≤ length buffer.old }
+    requires input_len_bound { length input.now ≤ input_limit }
+    requires input_in_bounds { bytes_for_each * length input.now ≤ length buffer.old }
     ensures value { result ≡ length (output input.now) }
     ensures buffer_after { buffer.new ≡ put_at buffer.old 0 (output input.now) }
 {
@@ -93,7 +93,7 @@ fn answer_lines(input: &[u8], buffer: &mut [u8]) -> usize
 // bytes, might be too short: then nothing is written.
 pub fn answer_input(input: &[u8], buffer: &mut [u8]) -> Written
     ensures value { result ≡ written input.now (length buffer.old) }
-    ensures buffer_after { buffer.new ≡ bufferAfter buffer.old input.now }
+    ensures buffer_after { buffer.new ≡ buffer_after buffer.old input.now }
 {
     if input.len() > Written::INPUT_LIMIT {
         if buffer.len() < Written::BYTES_OF_REFUSAL {

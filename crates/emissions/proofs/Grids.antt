@@ -15,9 +15,9 @@ use Rattle.rounding.proofs.Divided.{rounds, divided-at-most}
 use Rattle.rounding.proofs.Outcomes.{given_is, test-held}
 use Rattle.rounding.proofs.Ratio.{whole-conservative, rounds-conservative}
 use Rattle.rounding.proofs.Tests.{and_both}
-use Rattle.emissions.specs.Factor.{factorLimit, weightedSum, exactCombined, roundedCombined, margin}
-use Rattle.emissions.specs.Grid.{marginWithinLimits, weightsFull, enteredGrid, gridJudged, sameRoundings, gridIntact}
-use Rattle.emissions.specs.Answers.{gridMeaning}
+use Rattle.emissions.specs.Factor.{factor_limit, weighted_sum, exact_combined, rounded_combined, margin}
+use Rattle.emissions.specs.Grid.{margin_within_limits, weights_full, entered_grid, grid_judged, same_roundings, grid_intact}
+use Rattle.emissions.specs.Answers.{grid_meaning}
 use Rattle.emissions.specs.declared.Margins.{Margins}
 use Rattle.emissions.specs.declared.CombinedMargin.{CombinedMargin}
 use Rattle.emissions.specs.declared.CombinedMargin.TheVariants.{Stated, Mean}
@@ -29,60 +29,60 @@ use Rattle.emissions.specs.declared.Grid.TheVariants.{Absent, Entered}
 
 -- ---- the combined margin, exact and rounded
 
-pub combined-over : (m : CombinedMargin) → 0 < (exactCombined m).over
-unfolding exactCombined
+pub combined-over : (m : CombinedMargin) → 0 < (exact_combined m).over
+unfolding exact_combined
 combined-over (Stated F) = omega arith
 combined-over (Mean m) = omega arith
 
-pub combined-unsigned : (m : CombinedMargin) → (exactCombined m).minus ≡ 0
-unfolding exactCombined
+pub combined-unsigned : (m : CombinedMargin) → (exact_combined m).minus ≡ 0
+unfolding exact_combined
 combined-unsigned (Stated F) = refl
 combined-unsigned (Mean m) = refl
 
 -- Margins of at most 10,000,000 whose weights sum to 100 have a mean of at most 10,000,000.
-mean-limit : (m : Margins) → marginWithinLimits (Mean m) ≡ true → weightsFull (Mean m) ≡ true → weightedSum m ≤ factorLimit * 100
+mean-limit : (m : Margins) → margin_within_limits (Mean m) ≡ true → weights_full (Mean m) ≡ true → weighted_sum m ≤ factor_limit * 100
 mean-limit m h k =
-    let p = and_both (leb m.operating factorLimit) _ h in
+    let p = and_both (leb m.operating factor_limit) _ h in
     omega (
       arith,
       eqb-true (m.weights.operating + m.weights.build) 100 k,
-      mul-le-mul_right m.weights.operating (leb-true m.operating factorLimit p.0),
-      mul-le-mul_right m.weights.build (leb-true m.build factorLimit p.1),
+      mul-le-mul_right m.weights.operating (leb-true m.operating factor_limit p.0),
+      mul-le-mul_right m.weights.build (leb-true m.build factor_limit p.1),
     )
 
-pub rounded-limit : (dir : Direction) (m : CombinedMargin) → marginWithinLimits m ≡ true → weightsFull m ≡ true
-    → roundedCombined dir m ≤ factorLimit
-unfolding roundedCombined
-rounded-limit dir (Stated F) h k = leb-true F factorLimit h
-rounded-limit dir (Mean m) h k = divided-at-most dir (weightedSum m) 100 factorLimit (omega arith) (mean-limit m h k)
+pub rounded-limit : (dir : Direction) (m : CombinedMargin) → margin_within_limits m ≡ true → weights_full m ≡ true
+    → rounded_combined dir m ≤ factor_limit
+unfolding rounded_combined
+rounded-limit dir (Stated F) h k = leb-true F factor_limit h
+rounded-limit dir (Mean m) h k = divided-at-most dir (weighted_sum m) 100 factor_limit (omega arith) (mean-limit m h k)
 
-pub rounded-conservative : (dir : Direction) (m : CombinedMargin) → Conservative dir (roundedCombined dir m) (exactCombined m) (whole 1)
-unfolding roundedCombined exactCombined
+pub rounded-conservative : (dir : Direction) (m : CombinedMargin) → Conservative dir (rounded_combined dir m) (exact_combined m) (whole 1)
+unfolding rounded_combined exact_combined
 rounded-conservative dir (Stated F) = whole-conservative dir F (whole 1) (omega arith)
-rounded-conservative dir (Mean m) = rounds-conservative dir (weightedSum m) 100 _ (rounds dir (weightedSum m) 100 (omega arith))
+rounded-conservative dir (Mean m) = rounds-conservative dir (weighted_sum m) 100 _ (rounds dir (weighted_sum m) 100 (omega arith))
 
 -- ---- a grid that an entry leaves
 
-pub margin-entered : (dir : Direction) (g : GridEntry) → margin dir (Entered (enteredGrid g)) ≡ roundedCombined dir g.margin
+pub margin-entered : (dir : Direction) (g : GridEntry) → margin dir (Entered (entered_grid g)) ≡ rounded_combined dir g.margin
 unfolding margin
 margin-entered Up g = refl
 margin-entered Down g = refl
 
 -- What the tests of an entry leave.
 pub record GridFacts (g : GridEntry) : Type 0 where
-  pub limits : marginWithinLimits g.margin ≡ true
-  pub full : weightsFull g.margin ≡ true
+  pub limits : margin_within_limits g.margin ≡ true
+  pub full : weights_full g.margin ≡ true
 
-pub grid-facts : (g : GridEntry) (left : EnteredGrid) → gridJudged g ≡ given left → (left ≡ enteredGrid g) × GridFacts g
-unfolding gridJudged
+pub grid-facts : (g : GridEntry) (left : EnteredGrid) → grid_judged g ≡ given left → (left ≡ entered_grid g) × GridFacts g
+unfolding grid_judged
 grid-facts g left e =
-    let p = test-held 2 (marginWithinLimits g.margin) _ e in
-    let q = test-held 15 (weightsFull g.margin) _ p.1 in
+    let p = test-held 2 (margin_within_limits g.margin) _ e in
+    let q = test-held 15 (weights_full g.margin) _ p.1 in
     (sym (given_is q.1), record { limits = p.0; full = q.0 })
 
 -- The outcome of the case that the code found.
-pub judged-as : {o : Outcome EnteredGrid} {j k : GridJudged} → gridMeaning j ≡ o → j ≡ k → o ≡ gridMeaning k
-judged-as h e = sym h ∙ ap gridMeaning e
+pub judged-as : {o : Outcome EnteredGrid} {j k : GridJudged} → grid_meaning j ≡ o → j ≡ k → o ≡ grid_meaning k
+judged-as h e = sym h ∙ ap grid_meaning e
 
 same_parts : {left g : EnteredGrid} → left.entry ≡ g.entry → left.up ≡ g.up → left.down ≡ g.down → left ≡ g
 same_parts e u d = rw (e, u, d)
@@ -90,22 +90,22 @@ same_parts e u d = rw (e, u, d)
 -- What the laws of factors ask of a grid: that its own entry leaves it.
 abbrev pub GridSound : Grid → Type 0
 GridSound Absent = Unit {0}
-GridSound (Entered g) = gridJudged g.entry ≡ given g
+GridSound (Entered g) = grid_judged g.entry ≡ given g
 
 -- That is so exactly where the grid is intact.
-pub intact-sound : (grid : Grid) → gridIntact grid ≡ true → GridSound grid
+pub intact-sound : (grid : Grid) → grid_intact grid ≡ true → GridSound grid
 intact-sound Absent h = tt
-intact-sound (Entered g) h = go (gridJudged g.entry) refl h
+intact-sound (Entered g) h = go (grid_judged g.entry) refl h
   where
-    same : (left : EnteredGrid) → left ≡ enteredGrid g.entry → (eqb left.up g.up && eqb left.down g.down) ≡ true → left ≡ g
+    same : (left : EnteredGrid) → left ≡ entered_grid g.entry → (eqb left.up g.up && eqb left.down g.down) ≡ true → left ≡ g
     same left e k =
         let p = and_both (eqb left.up g.up) _ k in
         same_parts (ap (λ (x : EnteredGrid). x.entry) e) (eqb-true _ _ p.0) (eqb-true _ _ p.1)
 
-    go : (o : Outcome EnteredGrid) → gridJudged g.entry ≡ o → sameRoundings g o ≡ true → o ≡ given g
+    go : (o : Outcome EnteredGrid) → grid_judged g.entry ≡ o → same_roundings g o ≡ true → o ≡ given g
     go (refused n) e k = absurd (true≢false (sym k))
     go (given left) e k = ap given (same left (grid-facts g.entry left e).0 k)
 
-pub sound-intact : (grid : Grid) → GridSound grid → gridIntact grid ≡ true
+pub sound-intact : (grid : Grid) → GridSound grid → grid_intact grid ≡ true
 sound-intact Absent h = refl
 sound-intact (Entered g) h = rw (h, eq-eqb g.up g.up refl, eq-eqb g.down g.down refl)

@@ -5,12 +5,12 @@ use mathlib.Core.Option.{Option, none, some, some_inj, none-ne-some}
 use Prim.Native.Nat.{ℕ, zero, suc, ◌≤◌, ◌<◌}
 use native.Mathlib.Omega.{arith}
 use lib.ListN.{length, length-append}
-use Rattle.text.specs.Template.{filled, places_of, bound, Writable, Read, onRead, mapRead, pieceIn, numbersIn, numbersOf, templateIn}
+use Rattle.text.specs.Template.{filled, places_of, bound, Writable, Read, on_read, map_read, piece_in, numbers_in, numbers_of, template_in}
 use Rattle.text.specs.declared.Numbers.{Numbers}
 use Rattle.text.proofs.Templates.{Parted, template-reads-back, template-stands}
 use Rattle.rounding.specs.Lists.{All}
-use Rattle.forms.specs.Form.{allText, optionalText, WhereThere}
-use Rattle.forms.specs.Reading.{Row, or_else, one_of, orLeftOut, optionalOf, followed, manyWithin, manyOf}
+use Rattle.forms.specs.Form.{all_text, optional_text, WhereThere}
+use Rattle.forms.specs.Reading.{Row, or_else, one_of, or_left_out, optional_of, followed, many_within, many_of}
 
 -- The text of what was read stands at the start of t, up to the rest, and can be written.
 pub record Stands {A : Type 0} (text : A → List ℕ) (Ok : A → Type 0) (t : List ℕ) (r : Read A) : Type 0 where
@@ -31,12 +31,12 @@ module _ {A : Type 0} where
   else-read e f = rw e f
 
 module _ {A B : Type 0} where
-  pub on_read : {C : Type 0} (m : Option (Read A)) (k : A → List ℕ → Option B) (r : B) → onRead m k ≡ some r
+  pub on_read_lem : {C : Type 0} (m : Option (Read A)) (k : A → List ℕ → Option B) (r : B) → on_read m k ≡ some r
       → ((q : Read A) → m ≡ some q → k q.value q.rest ≡ some r → C) → C
-  on_read none k r e c = absurd (none-ne-some r e)
-  on_read (some q) k r e c = c q refl e
+  on_read_lem none k r e c = absurd (none-ne-some r e)
+  on_read_lem (some q) k r e c = c q refl e
 
-  pub on-map : (C : Read B → Type 0) (f : A → B) (m : Option (Read A)) (r : Read B) → mapRead f m ≡ some r
+  pub on-map : (C : Read B → Type 0) (f : A → B) (m : Option (Read A)) (r : Read B) → map_read f m ≡ some r
       → ((q : Read A) → m ≡ some q → C (record { value = f q.value; rest = q.rest })) → C r
   on-map C f none r e c = absurd (none-ne-some r e)
   on-map C f (some q) r e c = subst C (some_inj.0 e) (c q refl)
@@ -55,31 +55,31 @@ of-numbers (b ∷ places) P p [] v = absurd v
 of-numbers (b ∷ places) P p (n ∷ ns) v = of-numbers places (λ ns. P (n ∷ ns)) (p n v.0) ns v.1
 
 -- What holds of all numbers whose text can stand there holds of those that were read.
-pub on-template : (C : Numbers → Type 0) (w t : List ℕ) (q : Read Numbers) → templateIn w t ≡ some q
-    → OfNumbers (places_of w) (λ ns. t ≡ filled w ns ++ q.rest → C (numbersOf ns)) → C q.value
+pub on-template : (C : Numbers → Type 0) (w t : List ℕ) (q : Read Numbers) → template_in w t ≡ some q
+    → OfNumbers (places_of w) (λ ns. t ≡ filled w ns ++ q.rest → C (numbers_of ns)) → C q.value
 on-template C w t q e c =
     let s = template-stands w t q.value q.rest e in
-    subst C s.value (of-numbers (places_of w) (λ ns. t ≡ filled w ns ++ q.rest → C (numbersOf ns)) c s.numbers s.writable s.text)
+    subst C s.value (of-numbers (places_of w) (λ ns. t ≡ filled w ns ++ q.rest → C (numbers_of ns)) c s.numbers s.writable s.text)
 
 -- A template in two parts reads nothing where its second part reads nothing after the first.
-numbers-later : (u v t : List ℕ) (r : Read (List ℕ)) → numbersIn u t ≡ some r → numbersIn v r.rest ≡ none → numbersIn (u ++ v) t ≡ none
-unfolding numbersIn
+numbers-later : (u v t : List ℕ) (r : Read (List ℕ)) → numbers_in u t ≡ some r → numbers_in v r.rest ≡ none → numbers_in (u ++ v) t ≡ none
+unfolding numbers_in
 numbers-later [] v t r e f = rw (ap (λ (q : Read (List ℕ)). q.rest) (some_inj.0 e)) f
-numbers-later (b ∷ u) v t r e f = go (numbers-later u v) (pieceIn b t) e
+numbers-later (b ∷ u) v t r e f = go (numbers-later u v) (piece_in b t) e
   where
-    go : ((t : List ℕ) (r : Read (List ℕ)) → numbersIn u t ≡ some r → numbersIn v r.rest ≡ none → numbersIn (u ++ v) t ≡ none)
-        → (p : Option (Read (List ℕ))) → onRead p (λ ns rest. mapRead (λ ms. ns ++ ms) (numbersIn u rest)) ≡ some r
-        → onRead p (λ ns rest. mapRead (λ ms. ns ++ ms) (numbersIn (u ++ v) rest)) ≡ none
+    go : ((t : List ℕ) (r : Read (List ℕ)) → numbers_in u t ≡ some r → numbers_in v r.rest ≡ none → numbers_in (u ++ v) t ≡ none)
+        → (p : Option (Read (List ℕ))) → on_read p (λ ns rest. map_read (λ ms. ns ++ ms) (numbers_in u rest)) ≡ some r
+        → on_read p (λ ns rest. map_read (λ ms. ns ++ ms) (numbers_in (u ++ v) rest)) ≡ none
     go later none e = refl
     go later (some q) e =
-        on-map (λ r. numbersIn v r.rest ≡ none → mapRead (λ ms. q.value ++ ms) (numbersIn (u ++ v) q.rest) ≡ none)
-        (λ ms. q.value ++ ms) (numbersIn u q.rest) r e (λ m k f. rw (later q.rest m k f)) f
+        on-map (λ r. numbers_in v r.rest ≡ none → map_read (λ ms. q.value ++ ms) (numbers_in (u ++ v) q.rest) ≡ none)
+        (λ ms. q.value ++ ms) (numbers_in u q.rest) r e (λ m k f. rw (later q.rest m k f)) f
 
-pub template-later : (u v t : List ℕ) (r : Read Numbers) → templateIn u t ≡ some r → numbersIn v r.rest ≡ none → templateIn (u ++ v) t ≡ none
-unfolding templateIn
+pub template-later : (u v t : List ℕ) (r : Read Numbers) → template_in u t ≡ some r → numbers_in v r.rest ≡ none → template_in (u ++ v) t ≡ none
+unfolding template_in
 template-later u v t r e f =
-    ap (mapRead numbersOf)
-    (on-map (λ r. numbersIn v r.rest ≡ none → numbersIn (u ++ v) t ≡ none) numbersOf (numbersIn u t) r e (λ m k f. numbers-later u v t m k f) f)
+    ap (map_read numbers_of)
+    (on-map (λ r. numbers_in v r.rest ≡ none → numbers_in (u ++ v) t ≡ none) numbers_of (numbers_in u t) r e (λ m k f. numbers-later u v t m k f) f)
 
 -- ---- a table
 
@@ -87,7 +87,7 @@ template-later u v t r e f =
 pub one-append : {A : Type 0} (rows more : List (Row A)) (t : List ℕ) → one_of (rows ++ more) t ≡ or_else (one_of rows t) (one_of more t)
 unfolding one_of
 one-append [] more t = refl
-one-append {A = A} (w ∷ rows) more t = rw (one-append rows more t) (go (mapRead w.value (templateIn w.template t)))
+one-append {A = A} (w ∷ rows) more t = rw (one-append rows more t) (go (map_read w.value (template_in w.template t)))
   where
     go : (a : Option (Read A)) → or_else a (or_else (one_of rows t) (one_of more t)) ≡ or_else (or_else a (one_of rows t)) (one_of more t)
     go none = refl
@@ -96,12 +96,12 @@ one-append {A = A} (w ∷ rows) more t = rw (one-append rows more t) (go (mapRea
 module _ {A : Type 0} (text : A → List ℕ) (Ok : A → Type 0) where
   -- A row's template, filled with numbers, is the text of what they stand for.
   abbrev Filled : Row A → List ℕ → Type 0
-  Filled w ns = (filled w.template ns ≡ text (w.value (numbersOf ns))) × Ok (w.value (numbersOf ns))
+  Filled w ns = (filled w.template ns ≡ text (w.value (numbers_of ns))) × Ok (w.value (numbers_of ns))
 
   abbrev pub RowIsText : Row A → Type 0
   RowIsText w = OfNumbers (places_of w.template) (Filled w)
 
-  row-stands : (w : Row A) → RowIsText w → (t : List ℕ) (q : Read Numbers) → templateIn w.template t ≡ some q
+  row-stands : (w : Row A) → RowIsText w → (t : List ℕ) (q : Read Numbers) → template_in w.template t ≡ some q
       → Stands text Ok t (record { value = w.value q.value; rest = q.rest })
   row-stands w says t q e =
       let s = template-stands w.template t q.value q.rest e in
@@ -113,17 +113,17 @@ module _ {A : Type 0} (text : A → List ℕ) (Ok : A → Type 0) where
   unfolding one_of
   one-stands [] says t r e = absurd (none-ne-some r e)
   one-stands (w ∷ rows) says t r e =
-      either-read (mapRead w.value (templateIn w.template t)) (one_of rows t) r e
-      (λ e. on-map (Stands text Ok t) w.value (templateIn w.template t) r e (row-stands w says.0 t))
+      either-read (map_read w.value (template_in w.template t)) (one_of rows t) r e
+      (λ e. on-map (Stands text Ok t) w.value (template_in w.template t) r e (row-stands w says.0 t))
       (one-stands rows says.1 t r)
 
 module _ {A : Type 0} (w : Row A) (rows : List (Row A)) where
   pub this-row : (ns rest : List ℕ) → Writable (places_of w.template) ns → Parted w.template ns rest
-      → one_of (w ∷ rows) (filled w.template ns ++ rest) ≡ some (record { value = w.value (numbersOf ns); rest = rest })
+      → one_of (w ∷ rows) (filled w.template ns ++ rest) ≡ some (record { value = w.value (numbers_of ns); rest = rest })
   unfolding one_of
   this-row ns rest v p = rw (template-reads-back w.template ns rest v p)
 
-  pub later-row : (t : List ℕ) {r : Option (Read A)} → templateIn w.template t ≡ none → one_of rows t ≡ r → one_of (w ∷ rows) t ≡ r
+  pub later-row : (t : List ℕ) {r : Option (Read A)} → template_in w.template t ≡ none → one_of rows t ≡ r → one_of (w ∷ rows) t ≡ r
   unfolding one_of
   later-row t e f = rw e f
 
@@ -131,21 +131,21 @@ module _ {A : Type 0} (w : Row A) (rows : List (Row A)) where
 
 module _ {A : Type 0} (text : A → List ℕ) (Ok : A → Type 0) (rows : List (Row A)) where
   module _ (stands : (t : List ℕ) (r : Read A) → one_of rows t ≡ some r → Stands text Ok t r) where
-    pub optional-stands : (t : List ℕ) → Stands (optionalText text) (WhereThere Ok) t (optionalOf rows t)
+    pub optional-stands : (t : List ℕ) → Stands (optional_text text) (WhereThere Ok) t (optional_of rows t)
     optional-stands t = go (one_of rows t) (stands t)
       where
         go : (m : Option (Read A)) → ((r : Read A) → m ≡ some r → Stands text Ok t r)
-            → Stands (optionalText text) (WhereThere Ok) t (orLeftOut t m)
+            → Stands (optional_text text) (WhereThere Ok) t (or_left_out t m)
         go none s = record { stands = refl; writable = tt }
         go (some r) s = let q = s r refl in record { stands = q.stands; writable = q.writable }
 
-    many-within-stands : (most : ℕ) (t : List ℕ) → Stands (allText text) (All Ok) t (manyWithin rows most t)
-    unfolding manyWithin allText
+    many-within-stands : (most : ℕ) (t : List ℕ) → Stands (all_text text) (All Ok) t (many_within rows most t)
+    unfolding many_within all_text
     many-within-stands zero t = record { stands = refl; writable = tt }
     many-within-stands (suc most) t = go (many-within-stands most) (one_of rows t) (stands t)
       where
-        go : ((t : List ℕ) → Stands (allText text) (All Ok) t (manyWithin rows most t)) → (m : Option (Read A))
-            → ((r : Read A) → m ≡ some r → Stands text Ok t r) → Stands (allText text) (All Ok) t (followed t m (manyWithin rows most))
+        go : ((t : List ℕ) → Stands (all_text text) (All Ok) t (many_within rows most t)) → (m : Option (Read A))
+            → ((r : Read A) → m ≡ some r → Stands text Ok t r) → Stands (all_text text) (All Ok) t (followed t m (many_within rows most))
         go more none s = record { stands = refl; writable = tt }
         go more (some r) s =
             record {
@@ -153,12 +153,12 @@ module _ {A : Type 0} (text : A → List ℕ) (Ok : A → Type 0) (rows : List (
               writable = ((s r refl).writable, (more r.rest).writable);
             }
 
-    pub many-stand : (t : List ℕ) → Stands (allText text) (All Ok) t (manyOf rows t)
+    pub many-stand : (t : List ℕ) → Stands (all_text text) (All Ok) t (many_of rows t)
     many-stand t = many-within-stands (length t) t
 
   module _ (back : (a : A) (rest : List ℕ) → Ok a → one_of rows (text a ++ rest) ≡ some (record { value = a; rest = rest }))
       (rest : List ℕ) (last : one_of rows rest ≡ none) where
-    pub optional-reads-back : (a : Option A) → WhereThere Ok a → optionalOf rows (optionalText text a ++ rest) ≡ record { value = a; rest = rest }
+    pub optional-reads-back : (a : Option A) → WhereThere Ok a → optional_of rows (optional_text text a ++ rest) ≡ record { value = a; rest = rest }
     optional-reads-back none h = rw last
     optional-reads-back (some a) h = rw (back a rest h)
 
@@ -170,15 +170,15 @@ module _ {A : Type 0} (text : A → List ℕ) (Ok : A → Type 0) (rows : List (
         go [] e = absurd (none-ne-some _ (sym last ∙ e))
         go (b ∷ w) e = omega arith
 
-    many-within-back : (most : ℕ) (parts : List A) → All Ok parts → length (allText text parts ++ rest) ≤ most
-        → manyWithin rows most (allText text parts ++ rest) ≡ record { value = parts; rest = rest }
-    unfolding manyWithin allText
+    many-within-back : (most : ℕ) (parts : List A) → All Ok parts → length (all_text text parts ++ rest) ≤ most
+        → many_within rows most (all_text text parts ++ rest) ≡ record { value = parts; rest = rest }
+    unfolding many_within all_text
     many-within-back zero [] h l = refl
     many-within-back zero (a ∷ parts) h l = absurd (omega (arith, part-above-zero a h.0, simp length-append at l))
     many-within-back (suc most) [] h l = rw last
     many-within-back (suc most) (a ∷ parts) h l =
         let more = many-within-back most parts h.1 (simp length-append (omega (arith, part-above-zero a h.0, simp length-append at l))) in
-        rw (append_assoc, back a (allText text parts ++ rest) h.0, more)
+        rw (append_assoc, back a (all_text text parts ++ rest) h.0, more)
 
-    pub many-read-back : (parts : List A) → All Ok parts → manyOf rows (allText text parts ++ rest) ≡ record { value = parts; rest = rest }
-    many-read-back parts h = many-within-back (length (allText text parts ++ rest)) parts h (omega arith)
+    pub many-read-back : (parts : List A) → All Ok parts → many_of rows (all_text text parts ++ rest) ≡ record { value = parts; rest = rest }
+    many-read-back parts h = many-within-back (length (all_text text parts ++ rest)) parts h (omega arith)

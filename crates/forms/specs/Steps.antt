@@ -8,7 +8,7 @@ use Rattle.emissions.specs.declared.GridKind.{GridKind}
 use Rattle.emissions.specs.declared.Side.{Side}
 use Rattle.emissions.specs.declared.Supply.{Supply}
 use Rattle.emissions.specs.declared.Loss.{Loss}
-use Rattle.ledger.specs.Standing.{Call, enterGrid, enterPlant, enterSource}
+use Rattle.ledger.specs.Standing.{Call, enter_grid, enter_plant, enter_source}
 use Rattle.ledger.specs.Standing as call
 use Rattle.forms.specs.declared.part.KindRead.{KindRead}
 use Rattle.forms.specs.declared.part.KindRead.TheVariants as kind
@@ -31,29 +31,29 @@ use Rattle.forms.specs.declared.Line.{Line}
 abbrev pub found : {A : Type 0} → List ℕ → A → ℕ → Option (Read A)
 found s part next = some (record { value = part; rest = drop next s })
 
-abbrev pub kindMeaning : List ℕ → KindRead → Option (Read GridKind)
-kindMeaning s kind.Missing = none
-kindMeaning s (kind.Found part next) = found s part next
+abbrev pub kind_meaning : List ℕ → KindRead → Option (Read GridKind)
+kind_meaning s kind.Missing = none
+kind_meaning s (kind.Found part next) = found s part next
 
-abbrev pub sideMeaning : List ℕ → SideRead → Option (Read Side)
-sideMeaning s side.Missing = none
-sideMeaning s (side.Found part next) = found s part next
+abbrev pub side_meaning : List ℕ → SideRead → Option (Read Side)
+side_meaning s side.Missing = none
+side_meaning s (side.Found part next) = found s part next
 
-abbrev pub supplyMeaning : List ℕ → SupplyRead → Option (Read Supply)
-supplyMeaning s supply.Missing = none
-supplyMeaning s (supply.Found part next) = found s part next
+abbrev pub supply_meaning : List ℕ → SupplyRead → Option (Read Supply)
+supply_meaning s supply.Missing = none
+supply_meaning s (supply.Found part next) = found s part next
 
-abbrev pub lossMeaning : List ℕ → LossRead → Option (Read Loss)
-lossMeaning s loss.Missing = none
-lossMeaning s (loss.Found part next) = found s part next
+abbrev pub loss_meaning : List ℕ → LossRead → Option (Read Loss)
+loss_meaning s loss.Missing = none
+loss_meaning s (loss.Found part next) = found s part next
 
-abbrev pub meterMeaning : List ℕ → MeterRead → Option (Read Meter)
-meterMeaning s meter.Missing = none
-meterMeaning s (meter.Found part next) = found s part next
+abbrev pub meter_meaning : List ℕ → MeterRead → Option (Read Meter)
+meter_meaning s meter.Missing = none
+meter_meaning s (meter.Found part next) = found s part next
 
-abbrev pub fuelMeaning : List ℕ → FuelRead → Option (Read FuelLine)
-fuelMeaning s fuel.Missing = none
-fuelMeaning s (fuel.Found part next) = found s part next
+abbrev pub fuel_meaning : List ℕ → FuelRead → Option (Read FuelLine)
+fuel_meaning s fuel.Missing = none
+fuel_meaning s (fuel.Found part next) = found s part next
 
 -- The parts with the next one, where so many came before it: there are four places.
 abbrev pub kept_at : {A : Type 0} → ℕ → List A → A → List A
@@ -64,18 +64,18 @@ kept_at count parts part = cond (ltb count 4) (set parts count part) parts
 -- The call that a line holds: its kind says which parts count.
 abbrev pub call_by : Kind → Line → Option Call
 call_by NoForm l = none
-call_by GridForm l = some (enterGrid l.grid)
-call_by PlantForm l = some (cond l.drops (call.dropPlant l.number) (enterPlant l.number l.plant))
-call_by SourceForm l = some (cond l.drops (call.dropSource l.number) (enterSource l.number l.source))
+call_by GridForm l = some (enter_grid l.grid)
+call_by PlantForm l = some (cond l.drops (call.drop_plant l.number) (enter_plant l.number l.plant))
+call_by SourceForm l = some (cond l.drops (call.drop_source l.number) (enter_source l.number l.source))
 call_by ReportForm l = some call.report
 
 abbrev pub call_in : Line → Option Call
 call_in l = call_by l.kind l
 
-abbrev pub withRest : List ℕ → Option Call → ℕ → Option (Read Call)
-withRest s none next = none
-withRest s (some c) next = some (record { value = c; rest = drop next s })
+abbrev pub with_rest : List ℕ → Option Call → ℕ → Option (Read Call)
+with_rest s none next = none
+with_rest s (some c) next = some (record { value = c; rest = drop next s })
 
 -- What a line opens with, and what is left after it.
-abbrev pub openingMeaning : List ℕ → Line → Option (Read Call)
-openingMeaning s l = withRest s (call_in l) l.next
+abbrev pub opening_meaning : List ℕ → Line → Option (Read Call)
+opening_meaning s l = with_rest s (call_in l) l.next

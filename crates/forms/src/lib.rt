@@ -5,22 +5,22 @@ mod part;
 
 ghost use Rattle.std.specs.Prelude.{◌≡◌, ◌-◌, length, drop};
 ghost use Rattle.std.proofs.Math.Option.{none, some, map};
-ghost use Rattle.text.specs.Template.{mapRead};
+ghost use Rattle.text.specs.Template.{map_read};
 ghost use Rattle.forms.specs.Reading.{
   one_of,
-  gridIn,
-  marginsIn,
-  plantIn,
-  sourceIn,
+  grid_in,
+  margins_in,
+  plant_in,
+  source_in,
   others,
-  openingIn,
-  isClosing,
-  lineForm,
+  opening_in,
+  is_closing,
+  line_form,
 };
-ghost use Rattle.forms.specs.Calls.{fittedCall, plainLine, line_of};
-ghost use Rattle.records.specs.Judging.{isThere};
-ghost use Rattle.ledger.specs.Standing.{enterGrid};
-ghost use Rattle.forms.specs.Steps.{call_in, openingMeaning};
+ghost use Rattle.forms.specs.Calls.{fitted_call, plain_line, line_of};
+ghost use Rattle.records.specs.Judging.{is_there};
+ghost use Rattle.ledger.specs.Standing.{enter_grid};
+ghost use Rattle.forms.specs.Steps.{call_in, opening_meaning};
 
 use crate::list::{read_fuels, read_meters};
 use crate::part::{
@@ -63,7 +63,7 @@ impl Line {
 
 // A line of a kind whose other parts are empty.
 fn plain_line(kind: Kind, drops: bool, number: u8, next: usize) -> Line
-    ensures { result ≡ plainLine kind drops number next }
+    ensures { result ≡ plain_line kind drops number next }
 {
     let fuel = FuelLine::empty();
     let meter = Meter::empty();
@@ -101,7 +101,7 @@ fn no_form() -> Line
 
 // The line that holds a grid entry.
 fn grid_line(grid: GridEntry, next: usize) -> Line
-    ensures { result ≡ line_of (some (enterGrid grid)) next }
+    ensures { result ≡ line_of (some (enter_grid grid)) next }
 {
     let empty = plain_line(Kind::GridForm, false, 0, next);
     let plant = empty.plant;
@@ -118,7 +118,7 @@ fn grid_line(grid: GridEntry, next: usize) -> Line
 }
 
 fn read_grid(line: &[u8]) -> Line
-    ensures call { openingMeaning line.now result ≡ mapRead fittedCall (gridIn line.now) }
+    ensures call { opening_meaning line.now result ≡ map_read fitted_call (grid_in line.now) }
     ensures parts { result ≡ line_of (call_in result) result.next }
 {
     let Match::Match(numbers, at) = text::read_template(line, 0, b"(grid # ") else {
@@ -133,7 +133,7 @@ fn read_grid(line: &[u8]) -> Line
 }
 
 fn read_margins(line: &[u8]) -> Line
-    ensures call { openingMeaning line.now result ≡ mapRead fittedCall (marginsIn line.now) }
+    ensures call { opening_meaning line.now result ≡ map_read fitted_call (margins_in line.now) }
     ensures parts { result ≡ line_of (call_in result) result.next }
 {
     let Match::Match(figures, at) = text::read_template(line, 0, b"(grid margins # # ") else {
@@ -160,7 +160,7 @@ fn read_margins(line: &[u8]) -> Line
 }
 
 fn read_plant(line: &[u8]) -> Line
-    ensures call { openingMeaning line.now result ≡ mapRead fittedCall (plantIn line.now) }
+    ensures call { opening_meaning line.now result ≡ map_read fitted_call (plant_in line.now) }
     ensures parts { result ≡ line_of (call_in result) result.next }
 {
     let Match::Match(numbers, at) = text::read_template(line, 0, b"(plant # # #") else {
@@ -192,7 +192,7 @@ fn read_plant(line: &[u8]) -> Line
 }
 
 fn read_source(line: &[u8]) -> Line
-    ensures call { openingMeaning line.now result ≡ mapRead fittedCall (sourceIn line.now) }
+    ensures call { opening_meaning line.now result ≡ map_read fitted_call (source_in line.now) }
     ensures parts { result ≡ line_of (call_in result) result.next }
 {
     let Match::Match(numbers, at) = text::read_template(line, 0, b"(source # ") else {
@@ -234,7 +234,7 @@ fn read_source(line: &[u8]) -> Line
 
 // Reads a drop or a report.
 fn read_other(line: &[u8]) -> Line
-    ensures call { openingMeaning line.now result ≡ mapRead fittedCall (one_of others line.now) }
+    ensures call { opening_meaning line.now result ≡ map_read fitted_call (one_of others line.now) }
     ensures parts { result ≡ line_of (call_in result) result.next }
 {
     if let Match::Match(numbers, next) = text::read_template(line, 0, b"(drop source #") {
@@ -251,7 +251,7 @@ fn read_other(line: &[u8]) -> Line
 
 // Whether a line was read.
 fn is_form(line: Line) -> bool
-    ensures { result ≡ isThere (call_in line) }
+    ensures { result ≡ is_there (call_in line) }
 {
     let kind = line.kind;
     match kind {
@@ -265,7 +265,7 @@ fn is_form(line: Line) -> bool
 
 // Reads what a line opens with.
 fn read_opening(line: &[u8]) -> Line
-    ensures call { openingMeaning line.now result ≡ mapRead fittedCall (openingIn line.now) }
+    ensures call { opening_meaning line.now result ≡ map_read fitted_call (opening_in line.now) }
     ensures parts { result ≡ line_of (call_in result) result.next }
 {
     let grid = read_grid(line);
@@ -289,7 +289,7 @@ fn read_opening(line: &[u8]) -> Line
 
 // Whether the bracket that closes a form is all that is left of a line.
 fn closes(line: &[u8], at: usize) -> bool
-    ensures { result ≡ isClosing (drop at line.now) }
+    ensures { result ≡ is_closing (drop at line.now) }
 {
     if line.len() <= at {
         return false;
@@ -303,7 +303,7 @@ fn closes(line: &[u8], at: usize) -> bool
 // Reads a line, given without its LF: the call that it makes, where it is a form. A form ends at its last byte,
 // the bracket, and a line above 256 bytes is none.
 pub fn read_line(line: &[u8]) -> Line
-    ensures { result ≡ line_of (map fittedCall (lineForm line.now)) (length line.now - 1) }
+    ensures { result ≡ line_of (map fitted_call (line_form line.now)) (length line.now - 1) }
 {
     if line.len() > Line::LIMIT {
         return no_form();

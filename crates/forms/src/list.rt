@@ -1,10 +1,10 @@
 // The fuel lines of a plant and the meters of a source: as many as stand at a place, of which an entry has
 // the first four and counts all (document 01: "Any count of fuel lines or meters, none included, is a form").
 ghost use Rattle.std.specs.Prelude.{◌≡◌, map, ◌+◌, ◌<◌, ◌^◌, length, drop};
-ghost use Rattle.fuel.specs.Fuel.{noLine};
-ghost use Rattle.metering.specs.Energy.{noMeter};
-ghost use Rattle.forms.specs.Reading.{manyOf, meters, fuels};
-ghost use Rattle.forms.specs.Calls.{fourOf, fittedMeterOf, fittedLine};
+ghost use Rattle.fuel.specs.Fuel.{no_line};
+ghost use Rattle.metering.specs.Energy.{no_meter};
+ghost use Rattle.forms.specs.Reading.{many_of, meters, fuels};
+ghost use Rattle.forms.specs.Calls.{four_of, fitted_meter_of, fitted_line};
 ghost use Rattle.forms.specs.Steps.{kept_at};
 
 use crate::part::{FuelRead, MeterRead, read_fuel, read_meter};
@@ -46,9 +46,9 @@ fn with_fuel(fuels: Fuels, fuel: FuelLine, next: usize) -> Fuels
 
 // Reads fuel lines: as many as stand at a place.
 pub fn read_fuels(line: &[u8], at: usize) -> Fuels
-    ensures lines { result.lines ≡ fourOf noLine (map fittedLine (manyOf fuels (drop at line.now)).value) }
-    ensures count { result.count ≡ length (manyOf fuels (drop at line.now)).value }
-    ensures rest { drop result.next line.now ≡ (manyOf fuels (drop at line.now)).rest }
+    ensures lines { result.lines ≡ four_of no_line (map fitted_line (many_of fuels (drop at line.now)).value) }
+    ensures count { result.count ≡ length (many_of fuels (drop at line.now)).value }
+    ensures rest { drop result.next line.now ≡ (many_of fuels (drop at line.now)).rest }
 {
     let none = FuelLine::empty();
     let mut fuels = Fuels {
@@ -70,9 +70,9 @@ pub fn read_fuels(line: &[u8], at: usize) -> Fuels
 
 // Reads meters: as many as stand at a place.
 pub fn read_meters(line: &[u8], at: usize) -> Meters
-    ensures meters { result.meters ≡ fourOf noMeter (map fittedMeterOf (manyOf meters (drop at line.now)).value) }
-    ensures count { result.count ≡ length (manyOf meters (drop at line.now)).value }
-    ensures rest { drop result.next line.now ≡ (manyOf meters (drop at line.now)).rest }
+    ensures meters { result.meters ≡ four_of no_meter (map fitted_meter_of (many_of meters (drop at line.now)).value) }
+    ensures count { result.count ≡ length (many_of meters (drop at line.now)).value }
+    ensures rest { drop result.next line.now ≡ (many_of meters (drop at line.now)).rest }
 {
     let none = Meter::empty();
     let mut meters = [none; Meter::PLACES];

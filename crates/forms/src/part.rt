@@ -2,7 +2,7 @@
 // The templates are those of the crate `text`: # is the place of a decimal, % that of a register.
 ghost use Rattle.std.specs.Prelude.{◌≡◌, drop};
 ghost use Rattle.std.proofs.Math.Option.{some};
-ghost use Rattle.text.specs.Template.{mapRead, templateIn};
+ghost use Rattle.text.specs.Template.{map_read, template_in};
 ghost use Rattle.forms.specs.Form.{whole, single};
 ghost use Rattle.forms.specs.Reading.{
   one_of,
@@ -10,32 +10,32 @@ ghost use Rattle.forms.specs.Reading.{
   sides,
   supplies,
   losses,
-  plainMeters,
-  ratioMeters,
+  plain_meters,
+  ratio_meters,
   meters,
   fuels,
-  optionalOf,
+  optional_of,
   heats,
 };
 ghost use Rattle.forms.specs.Calls.{
-  meterOf,
+  meter_of,
   heat_of,
   at_most,
-  byteField,
-  halfField,
-  wordField,
-  fittedSupply,
-  fittedLoss,
-  fittedMeterOf,
-  fittedLine,
+  byte_field,
+  half_field,
+  word_field,
+  fitted_supply,
+  fitted_loss,
+  fitted_meter_of,
+  fitted_line,
 };
 ghost use Rattle.forms.specs.Steps.{
-  kindMeaning,
-  sideMeaning,
-  supplyMeaning,
-  lossMeaning,
-  meterMeaning,
-  fuelMeaning,
+  kind_meaning,
+  side_meaning,
+  supply_meaning,
+  loss_meaning,
+  meter_meaning,
+  fuel_meaning,
 };
 
 use emissions::{GridKind, Loss, Side, Supply};
@@ -112,26 +112,26 @@ fn at_most(number: u64, limit: u64) -> u64
 }
 
 pub fn byte_field(number: u64) -> u8
-    ensures { result ≡ byteField number }
+    ensures { result ≡ byte_field number }
 {
     at_most(number, LARGEST_BYTE) as u8
 }
 
 fn half_field(number: u64) -> u16
-    ensures { result ≡ halfField number }
+    ensures { result ≡ half_field number }
 {
     at_most(number, LARGEST_HALF) as u16
 }
 
 pub fn word_field(number: u64) -> u32
-    ensures { result ≡ wordField number }
+    ensures { result ≡ word_field number }
 {
     at_most(number, LARGEST_WORD) as u32
 }
 
 // A kind of grid by its word. A function of its own, so that what the two words take of the stack is taken once.
 fn read_kind_word(line: &[u8], at: usize, word: &[u8], kind: GridKind) -> KindRead
-    ensures { kindMeaning line.now result ≡ mapRead (λ n. kind) (templateIn word.now (drop at line.now)) }
+    ensures { kind_meaning line.now result ≡ map_read (λ n. kind) (template_in word.now (drop at line.now)) }
 {
     if let Match::Match(_, next) = text::read_template(line, at, word) {
         return KindRead::Found(kind, next);
@@ -140,7 +140,7 @@ fn read_kind_word(line: &[u8], at: usize, word: &[u8], kind: GridKind) -> KindRe
 }
 
 pub fn read_kind(line: &[u8], at: usize) -> KindRead
-    ensures { kindMeaning line.now result ≡ one_of kinds (drop at line.now) }
+    ensures { kind_meaning line.now result ≡ one_of kinds (drop at line.now) }
 {
     if let KindRead::Found(kind, next) = read_kind_word(line, at, b"thermal", GridKind::Thermal) {
         return KindRead::Found(kind, next);
@@ -149,7 +149,7 @@ pub fn read_kind(line: &[u8], at: usize) -> KindRead
 }
 
 pub fn read_side(line: &[u8], at: usize) -> SideRead
-    ensures { sideMeaning line.now result ≡ one_of sides (drop at line.now) }
+    ensures { side_meaning line.now result ≡ one_of sides (drop at line.now) }
 {
     if let Match::Match(_, next) = text::read_template(line, at, b"project") {
         return SideRead::Found(Side::Project, next);
@@ -164,7 +164,7 @@ pub fn read_side(line: &[u8], at: usize) -> SideRead
 }
 
 pub fn read_supply(line: &[u8], at: usize) -> SupplyRead
-    ensures { supplyMeaning line.now result ≡ mapRead fittedSupply (one_of supplies (drop at line.now)) }
+    ensures { supply_meaning line.now result ≡ map_read fitted_supply (one_of supplies (drop at line.now)) }
 {
     if let Match::Match(_, next) = text::read_template(line, at, b" (combined)") {
         return SupplyRead::Found(Supply::Combined, next);
@@ -185,7 +185,7 @@ pub fn read_supply(line: &[u8], at: usize) -> SupplyRead
 }
 
 pub fn read_loss(line: &[u8], at: usize) -> LossRead
-    ensures { lossMeaning line.now result ≡ mapRead fittedLoss (one_of losses (drop at line.now)) }
+    ensures { loss_meaning line.now result ≡ map_read fitted_loss (one_of losses (drop at line.now)) }
 {
     if let Match::Match(numbers, next) = text::read_template(line, at, b" (loss #)") {
         return LossRead::Found(Loss::Measured(half_field(numbers.first)), next);
@@ -203,7 +203,7 @@ pub fn read_loss(line: &[u8], at: usize) -> LossRead
 }
 
 fn whole_meter(ratio: u16, sign: Sign, first: u64, last: u64) -> Meter
-    ensures { result ≡ meterOf (whole (some ratio) sign first last) }
+    ensures { result ≡ meter_of (whole (some ratio) sign first last) }
 {
     Meter {
         ratio,
@@ -213,7 +213,7 @@ fn whole_meter(ratio: u16, sign: Sign, first: u64, last: u64) -> Meter
 }
 
 fn single_meter(ratio: u16, sign: Sign, first: u64, last: u64) -> Meter
-    ensures { result ≡ meterOf (single (some ratio) sign (wordField first) (wordField last)) }
+    ensures { result ≡ meter_of (single (some ratio) sign (word_field first) (word_field last)) }
 {
     Meter {
         ratio,
@@ -227,7 +227,7 @@ fn single_meter(ratio: u16, sign: Sign, first: u64, last: u64) -> Meter
 
 // A meter whose ratio is left out.
 fn read_plain_meter(line: &[u8], at: usize) -> MeterRead
-    ensures { meterMeaning line.now result ≡ mapRead fittedMeterOf (one_of plainMeters (drop at line.now)) }
+    ensures { meter_meaning line.now result ≡ map_read fitted_meter_of (one_of plain_meters (drop at line.now)) }
 {
     if let Match::Match(numbers, next) = text::read_template(line, at, b" (whole + # #)") {
         let meter = whole_meter(RATIO_LEFT_OUT, Sign::Plus, numbers.first, numbers.second);
@@ -250,7 +250,7 @@ fn read_plain_meter(line: &[u8], at: usize) -> MeterRead
 
 // A meter with a ratio before its sign.
 fn read_ratio_meter(line: &[u8], at: usize) -> MeterRead
-    ensures { meterMeaning line.now result ≡ mapRead fittedMeterOf (one_of ratioMeters (drop at line.now)) }
+    ensures { meter_meaning line.now result ≡ map_read fitted_meter_of (one_of ratio_meters (drop at line.now)) }
 {
     if let Match::Match(numbers, next) = text::read_template(line, at, b" (whole # + # #)") {
         let ratio = half_field(numbers.first);
@@ -276,7 +276,7 @@ fn read_ratio_meter(line: &[u8], at: usize) -> MeterRead
 }
 
 pub fn read_meter(line: &[u8], at: usize) -> MeterRead
-    ensures { meterMeaning line.now result ≡ mapRead fittedMeterOf (one_of meters (drop at line.now)) }
+    ensures { meter_meaning line.now result ≡ map_read fitted_meter_of (one_of meters (drop at line.now)) }
 {
     if let MeterRead::Found(meter, next) = read_plain_meter(line, at) {
         return MeterRead::Found(meter, next);
@@ -285,7 +285,7 @@ pub fn read_meter(line: &[u8], at: usize) -> MeterRead
 }
 
 pub fn read_fuel(line: &[u8], at: usize) -> FuelRead
-    ensures { fuelMeaning line.now result ≡ mapRead fittedLine (one_of fuels (drop at line.now)) }
+    ensures { fuel_meaning line.now result ≡ map_read fitted_line (one_of fuels (drop at line.now)) }
 {
     if let Match::Match(numbers, next) = text::read_template(line, at, b" (fuel # # #)") {
         let quantity = word_field(numbers.first);
@@ -320,8 +320,8 @@ pub fn read_fuel(line: &[u8], at: usize) -> FuelRead
 
 // Heat has a field that holds every decimal.
 pub fn read_heat(line: &[u8], at: usize) -> HeatRead
-    ensures heat { result.heat ≡ heat_of (optionalOf heats (drop at line.now)).value }
-    ensures rest { drop result.next line.now ≡ (optionalOf heats (drop at line.now)).rest }
+    ensures heat { result.heat ≡ heat_of (optional_of heats (drop at line.now)).value }
+    ensures rest { drop result.next line.now ≡ (optional_of heats (drop at line.now)).rest }
 {
     if let Match::Match(numbers, next) = text::read_template(line, at, b" (heat #)") {
         return HeatRead {

@@ -5,14 +5,14 @@ ghost use Rattle.rounding.specs.Ratio.{◌÷◌};
 ghost use Rattle.rounding.specs.declared.Direction.TheVariants.{Up, Down};
 ghost use Rattle.fuel.specs.declared.FuelKind.TheVariants.{Energy, Mass, Volume};
 ghost use Rattle.fuel.specs.Fuel.{
-  noLine,
-  kindFits,
-  withinLimits,
-  exactMilligrams,
-  lineMilligrams,
-  milligramsMeaning,
-  statedEnergy,
-  energyMeaning,
+  no_line,
+  kind_fits,
+  within_limits,
+  exact_milligrams,
+  line_milligrams,
+  milligrams_meaning,
+  stated_energy,
+  energy_meaning,
 };
 
 use rounding::Direction;
@@ -89,7 +89,7 @@ impl FuelLine {
 
     // The empty line: what a place for a line holds where there is none.
     pub fn empty() -> FuelLine
-        ensures { result ≡ noLine }
+        ensures { result ≡ no_line }
     {
         FuelLine {
             kind: FuelKind::Energy {
@@ -102,7 +102,7 @@ impl FuelLine {
 
     // Whether the line is within its limits; number 2 refuses a plant with a line that is not.
     pub fn is_within_limits(self) -> bool
-        ensures { result ≡ withinLimits self }
+        ensures { result ≡ within_limits self }
     {
         let kind = self.kind;
         match kind {
@@ -124,8 +124,8 @@ impl FuelLine {
     // the figures 1,100/3 of Q × W by mass and 11/30 of Q × density × W by volume. Within the limits no
     // product wraps.
     fn unrounded(self) -> Unrounded
-        requires { withinLimits self ≡ true }
-        ensures { (result.product ÷ result.divisor) ≡ exactMilligrams self }
+        requires { within_limits self ≡ true }
+        ensures { (result.product ÷ result.divisor) ≡ exact_milligrams self }
     {
         let kind = self.kind;
         match kind {
@@ -155,8 +155,8 @@ impl FuelLine {
     // The milligrams of CO2 of the line, rounded both ways: so the limits are tested once, and one quotient serves
     // both. Out of the limits nothing is computed, so that no product wraps at any value of the fields.
     pub fn milligrams(self) -> BothWays
-        ensures up { milligramsMeaning result.up ≡ lineMilligrams Up self }
-        ensures down { milligramsMeaning result.down ≡ lineMilligrams Down self }
+        ensures up { milligrams_meaning result.up ≡ line_milligrams Up self }
+        ensures down { milligrams_meaning result.down ≡ line_milligrams Down self }
     {
         if self.is_within_limits() {
             let exact = self.unrounded();
@@ -175,7 +175,7 @@ impl FuelLine {
 
     // The energy that the line states. Out of the limits it is none, so that a caller can sum up lines.
     pub fn energy(self) -> LineEnergy
-        ensures { energyMeaning result ≡ statedEnergy self }
+        ensures { energy_meaning result ≡ stated_energy self }
     {
         let kind = self.kind;
         match kind {
@@ -195,7 +195,7 @@ impl FuelLine {
 }
 
 fn stated_energy(quantity: u32, ncv: u32, factor: u32) -> LineEnergy
-    ensures { energyMeaning result ≡ statedEnergy (record { kind = Energy quantity ncv factor }) }
+    ensures { energy_meaning result ≡ stated_energy (record { kind = Energy quantity ncv factor }) }
 {
     if energy_fits(quantity, ncv, factor) {
         return LineEnergy::Stated(quantity as u64 * ncv as u64);
@@ -204,7 +204,7 @@ fn stated_energy(quantity: u32, ncv: u32, factor: u32) -> LineEnergy
 }
 
 fn energy_fits(quantity: u32, ncv: u32, factor: u32) -> bool
-    ensures { result ≡ kindFits (Energy quantity ncv factor) }
+    ensures { result ≡ kind_fits (Energy quantity ncv factor) }
 {
     if quantity > FuelLine::QUANTITY_LIMIT {
         return false;
@@ -219,7 +219,7 @@ fn energy_fits(quantity: u32, ncv: u32, factor: u32) -> bool
 }
 
 fn mass_fits(quantity: u32, carbon: u32) -> bool
-    ensures { result ≡ kindFits (Mass quantity carbon) }
+    ensures { result ≡ kind_fits (Mass quantity carbon) }
 {
     if quantity > FuelLine::QUANTITY_LIMIT {
         return false;
@@ -229,7 +229,7 @@ fn mass_fits(quantity: u32, carbon: u32) -> bool
 
 // W and Q are limited as by mass.
 fn volume_fits(quantity: u32, density: u32, carbon: u32) -> bool
-    ensures { result ≡ kindFits (Volume quantity density carbon) }
+    ensures { result ≡ kind_fits (Volume quantity density carbon) }
 {
     if density > FuelLine::DENSITY_LIMIT {
         return false;

@@ -16,10 +16,10 @@ use Rattle.rounding.specs.Divided.{divided, opposite, sum}
 use Rattle.rounding.specs.Ratio.{◌÷◌, whole, Conservative}
 use Rattle.rounding.proofs.Ratio.{all_of, sum-conservative, less-conservative}
 use Rattle.rounding.proofs.Tests.{and_both, ltb-kept}
-use Rattle.metering.specs.Reading.{unit, limit, exactBy, accepted, wattHours}
-use Rattle.metering.specs.Energy.{first_of, last_of, addingOf, takingOf, adding, taking, hasRatio, isAccepted, runsBack, allMeters, anyMeter}
-use Rattle.metering.specs.Energy.{exactEnergy, roundedAdding, roundedTaking, judgedReadings, judgedMeters, settledEnergy}
-use Rattle.metering.specs.Steps.{isRead, meterRead, metersRead}
+use Rattle.metering.specs.Reading.{unit, limit, exact_by, accepted, watt_hours}
+use Rattle.metering.specs.Energy.{first_of, last_of, adding_of, taking_of, adding, taking, has_ratio, is_accepted, runs_back, all_meters, any_meter}
+use Rattle.metering.specs.Energy.{exact_energy, rounded_adding, rounded_taking, judged_readings, judged_meters, settled_energy}
+use Rattle.metering.specs.Steps.{is_read, meter_read, meters_read}
 use Rattle.metering.specs.declared.Reading.{Reading}
 use Rattle.metering.specs.declared.Sign.{Sign}
 use Rattle.metering.specs.declared.Sign.TheVariants.{Plus, Minus}
@@ -48,35 +48,35 @@ pub counts-order : (l f : ℕ) → ltb l f ≡ ltb (l * unit) (f * unit)
 counts-order l f = order-by unit l f unit-above-zero
 
 -- Both readings of a meter are accepted where the one that adds and the one that is taken are.
-accepted-both : (m : Meter) → isAccepted m ≡ (accepted m.ratio (adding m) && accepted m.ratio (taking m))
+accepted-both : (m : Meter) → is_accepted m ≡ (accepted m.ratio (adding m) && accepted m.ratio (taking m))
 accepted-both m = go m.sign (accepted m.ratio (first_of m.interval)) (accepted m.ratio (last_of m.interval)) refl refl
   where
     go : (s : Sign) (f l : Bool) → accepted m.ratio (first_of m.interval) ≡ f → accepted m.ratio (last_of m.interval) ≡ l
-        → (f && l) ≡ (accepted m.ratio (addingOf s m.interval) && accepted m.ratio (takingOf s m.interval))
+        → (f && l) ≡ (accepted m.ratio (adding_of s m.interval) && accepted m.ratio (taking_of s m.interval))
     go Plus f l p q = and-swap f l ∙ sym (rw (p, q))
     go Minus f l p q = sym (rw (p, q))
 
-pub both-accepted : (m : Meter) → isAccepted m ≡ true → (accepted m.ratio (adding m) ≡ true) × (accepted m.ratio (taking m) ≡ true)
+pub both-accepted : (m : Meter) → is_accepted m ≡ true → (accepted m.ratio (adding m) ≡ true) × (accepted m.ratio (taking m) ≡ true)
 both-accepted m h = and_both (accepted m.ratio (adding m)) (accepted m.ratio (taking m)) (sym (accepted-both m) ∙ h)
 
 -- The ratio of a meter that is read is not 0.
-pub read-ratio : (m : Meter) → isRead m ≡ true → 0 < m.ratio
-read-ratio m h = ratio-above-zero m.ratio (and_both (hasRatio m) (isAccepted m) h).0
+pub read-ratio : (m : Meter) → is_read m ≡ true → 0 < m.ratio
+read-ratio m h = ratio-above-zero m.ratio (and_both (has_ratio m) (is_accepted m) h).0
 
 module _ (dir : Direction) (m : Meter) where
   abbrev adds : ℕ
-  adds = divided dir (exactBy m.ratio (adding m)) unit
+  adds = divided dir (exact_by m.ratio (adding m)) unit
 
   abbrev takes : ℕ
-  takes = divided (opposite dir) (exactBy m.ratio (taking m)) unit
+  takes = divided (opposite dir) (exact_by m.ratio (taking m)) unit
 
-  abbrev readIf : Bool → MeterRead
-  readIf t = cond t (Moved adds takes (runsBack m)) Refused
+  abbrev read_if : Bool → MeterRead
+  read_if t = cond t (Moved adds takes (runs_back m)) Refused
 
   -- A reading that is accepted where the meter is, and is refused.
-  pub meter-refused : (r : Reading) → (isAccepted m ≡ true → accepted m.ratio r ≡ true) → (hasRatio m && accepted m.ratio r) ≡ false
-      → Refused ≡ meterRead dir m
-  meter-refused r k h = sym (ap readIf (go (hasRatio m) (isAccepted m) (accepted m.ratio r) k h))
+  pub meter-refused : (r : Reading) → (is_accepted m ≡ true → accepted m.ratio r ≡ true) → (has_ratio m && accepted m.ratio r) ≡ false
+      → Refused ≡ meter_read dir m
+  meter-refused r k h = sym (ap read_if (go (has_ratio m) (is_accepted m) (accepted m.ratio r) k h))
     where
       go : (f s t : Bool) → (s ≡ true → t ≡ true) → (f && t) ≡ false → (f && s) ≡ false
       go true true t k h = absurd (true≢false (sym (k refl) ∙ h))
@@ -84,29 +84,29 @@ module _ (dir : Direction) (m : Meter) where
       go false s t k h = refl
 
   -- What the two rounded readings say of the meter.
-  module _ (a t : ℕ) (p : wattHours dir m.ratio (adding m) ≡ given a) (q : wattHours (opposite dir) m.ratio (taking m) ≡ given t) where
-    pub both-given : isRead m ≡ true
+  module _ (a t : ℕ) (p : watt_hours dir m.ratio (adding m) ≡ given a) (q : watt_hours (opposite dir) m.ratio (taking m) ≡ given t) where
+    pub both-given : is_read m ≡ true
     both-given =
         let x = was-rounded dir m.ratio (adding m) a p in
         let y = was-rounded (opposite dir) m.ratio (taking m) t q in
-        ap (◌&&◌ (hasRatio m)) (accepted-both m) ∙ rw (x.0, x.1, y.1)
+        ap (◌&&◌ (has_ratio m)) (accepted-both m) ∙ rw (x.0, x.1, y.1)
 
-    pub meter-moved : Moved a t (runsBack m) ≡ meterRead dir m
+    pub meter-moved : Moved a t (runs_back m) ≡ meter_read dir m
     meter-moved =
-        sym (ap readIf both-given
-        ∙ ap (λ (n : ℕ). Moved n takes (runsBack m)) (was-rounded dir m.ratio (adding m) a p).2
-        ∙ ap (λ (n : ℕ). Moved a n (runsBack m)) (was-rounded (opposite dir) m.ratio (taking m) t q).2)
+        sym (ap read_if both-given
+        ∙ ap (λ (n : ℕ). Moved n takes (runs_back m)) (was-rounded dir m.ratio (adding m) a p).2
+        ∙ ap (λ (n : ℕ). Moved a n (runs_back m)) (was-rounded (opposite dir) m.ratio (taking m) t q).2)
 
   -- Each of the two is within the limit.
-  pub meter-within : (a t : ℕ) (b : Bool) → meterRead dir m ≡ Moved a t b → (a ≤ limit) × (t ≤ limit)
+  pub meter-within : (a t : ℕ) (b : Bool) → meter_read dir m ≡ Moved a t b → (a ≤ limit) × (t ≤ limit)
   meter-within a t b e =
-      let w = go (isRead m) e in
-      let p = both-accepted m (and_both (hasRatio m) (isAccepted m) w.0).1 in (
+      let w = go (is_read m) e in
+      let p = both-accepted m (and_both (has_ratio m) (is_accepted m) w.0).1 in (
         subst (λ (n : ℕ). n ≤ limit) w.1 (rounded-within dir m.ratio (adding m) p.0),
         subst (λ (n : ℕ). n ≤ limit) w.2 (rounded-within (opposite dir) m.ratio (taking m) p.1),
       )
     where
-      go : (s : Bool) → readIf s ≡ Moved a t b → (s ≡ true) × (adds ≡ a) × (takes ≡ t)
+      go : (s : Bool) → read_if s ≡ Moved a t b → (s ≡ true) × (adds ≡ a) × (takes ≡ t)
       go true h = (refl, cc, cc)
       go false h = (cc, cc, cc)
 
@@ -118,11 +118,11 @@ joined (Moved a t b) (Moved c d e) = Moved (a + c) (t + d) (b || e)
 joined (Moved a t b) Refused = Refused
 joined Refused r = Refused
 
-meters-cons : (dir : Direction) (m : Meter) (ms : List Meter) → metersRead dir (m ∷ ms) ≡ joined (meterRead dir m) (metersRead dir ms)
-unfolding allMeters anyMeter roundedAdding roundedTaking sum
+meters-cons : (dir : Direction) (m : Meter) (ms : List Meter) → meters_read dir (m ∷ ms) ≡ joined (meter_read dir m) (meters_read dir ms)
+unfolding all_meters any_meter rounded_adding rounded_taking sum
 meters-cons dir m ms =
-    go (isRead m) (allMeters isRead ms) (adds dir m) (roundedAdding dir ms) (takes dir m) (roundedTaking dir ms)
-    (runsBack m) (anyMeter runsBack ms)
+    go (is_read m) (all_meters is_read ms) (adds dir m) (rounded_adding dir ms) (takes dir m) (rounded_taking dir ms)
+    (runs_back m) (any_meter runs_back ms)
   where
     go : (s u : Bool) (x X y Y : ℕ) (z Z : Bool)
         → cond (s && u) (Moved (x + X) (y + Y) (z || Z)) Refused ≡ joined (cond s (Moved x y z) Refused) (cond u (Moved X Y Z) Refused)
@@ -130,8 +130,8 @@ meters-cons dir m ms =
     go true false x X y Y z Z = refl
     go false u x X y Y z Z = refl
 
-pub meters-none : (dir : Direction) → metersRead dir [] ≡ Moved 0 0 false
-unfolding allMeters anyMeter roundedAdding roundedTaking sum
+pub meters-none : (dir : Direction) → meters_read dir [] ≡ Moved 0 0 false
+unfolding all_meters any_meter rounded_adding rounded_taking sum
 meters-none dir = refl
 
 or_assoc : (a b c : Bool) → (a || (b || c)) ≡ ((a || b) || c)
@@ -155,10 +155,10 @@ none-joined Refused = refl
 
 -- What the meters from i on give, of the first n.
 abbrev pub left : Direction → List Meter → ℕ → ℕ → MeterRead
-left dir ms n i = metersRead dir (take (n - i) (drop i ms))
+left dir ms n i = meters_read dir (take (n - i) (drop i ms))
 
-pub at_first : (dir : Direction) (ms : List Meter) (n : ℕ) → metersRead dir (take n ms) ≡ joined (Moved 0 0 false) (left dir ms n 0)
-at_first dir ms n = ap (λ (k : ℕ). metersRead dir (take k ms)) (sym (sub-zero n)) ∙ sym (none-joined (left dir ms n 0))
+pub at_first : (dir : Direction) (ms : List Meter) (n : ℕ) → meters_read dir (take n ms) ≡ joined (Moved 0 0 false) (left dir ms n 0)
+at_first dir ms n = ap (λ (k : ℕ). meters_read dir (take k ms)) (sym (sub-zero n)) ∙ sym (none-joined (left dir ms n 0))
 
 rest : (ms : List Meter) (n i : ℕ) (d : Meter) → i < n → n ≤ length ms
     → take (n - i) (drop i ms) ≡ get_or ms i d ∷ take (n - (i + 1)) (drop (i + 1) ms)
@@ -182,19 +182,19 @@ module _
     (b : Bool)
     (h : i < n)
     (k : n ≤ length ms)
-    (e : metersRead dir (take n ms) ≡ joined (Moved a t b) (left dir ms n i))
+    (e : meters_read dir (take n ms) ≡ joined (Moved a t b) (left dir ms n i))
   where
-    turn : metersRead dir (take n ms) ≡ joined (Moved a t b) (joined (meterRead dir (get_or ms i d)) (left dir ms n (i + 1)))
+    turn : meters_read dir (take n ms) ≡ joined (Moved a t b) (joined (meter_read dir (get_or ms i d)) (left dir ms n (i + 1)))
     turn =
         e
         ∙ ap (joined (Moved a t b))
-        (ap (metersRead dir) (rest ms n i d h k) ∙ meters-cons dir (get_or ms i d) (take (n - (i + 1)) (drop (i + 1) ms)))
+        (ap (meters_read dir) (rest ms n i d h k) ∙ meters-cons dir (get_or ms i d) (take (n - (i + 1)) (drop (i + 1) ms)))
 
-    pub stops : meterRead dir (get_or ms i d) ≡ Refused → Refused ≡ metersRead dir (take n ms)
+    pub stops : meter_read dir (get_or ms i d) ≡ Refused → Refused ≡ meters_read dir (take n ms)
     stops u = sym (turn ∙ ap (λ (x : MeterRead). joined (Moved a t b) (joined x (left dir ms n (i + 1)))) u)
 
-    pub goes_on : (c x : ℕ) (z : Bool) → meterRead dir (get_or ms i d) ≡ Moved c x z
-        → metersRead dir (take n ms) ≡ joined (Moved (a + c) (t + x) (b || z)) (left dir ms n (i + 1))
+    pub goes_on : (c x : ℕ) (z : Bool) → meter_read dir (get_or ms i d) ≡ Moved c x z
+        → meters_read dir (take n ms) ≡ joined (Moved (a + c) (t + x) (b || z)) (left dir ms n (i + 1))
     goes_on c x z u =
         turn
         ∙ ap (λ (r : MeterRead). joined (Moved a t b) (joined r (left dir ms n (i + 1)))) u
@@ -203,33 +203,33 @@ module _
 -- ---- the ratios of a list of meters
 
 -- Whether the meters from i on, of the first n, have their ratios in range.
-abbrev pub ratiosLeft : List Meter → ℕ → ℕ → Bool
-ratiosLeft ms n i = allMeters hasRatio (take (n - i) (drop i ms))
+abbrev pub ratios_left : List Meter → ℕ → ℕ → Bool
+ratios_left ms n i = all_meters has_ratio (take (n - i) (drop i ms))
 
-pub ratios-first : (ms : List Meter) (n : ℕ) → allMeters hasRatio (take n ms) ≡ ratiosLeft ms n 0
-ratios-first ms n = ap (λ (k : ℕ). allMeters hasRatio (take k ms)) (sym (sub-zero n))
+pub ratios-first : (ms : List Meter) (n : ℕ) → all_meters has_ratio (take n ms) ≡ ratios_left ms n 0
+ratios-first ms n = ap (λ (k : ℕ). all_meters has_ratio (take k ms)) (sym (sub-zero n))
 
 pub ratios-turn : (ms : List Meter) (n i : ℕ) (d : Meter) → i < n → n ≤ length ms
-    → ratiosLeft ms n i ≡ (hasRatio (get_or ms i d) && ratiosLeft ms n (i + 1))
-unfolding allMeters
-ratios-turn ms n i d h k = ap (allMeters hasRatio) (rest ms n i d h k)
+    → ratios_left ms n i ≡ (has_ratio (get_or ms i d) && ratios_left ms n (i + 1))
+unfolding all_meters
+ratios-turn ms n i d h k = ap (all_meters has_ratio) (rest ms n i d h k)
 
-pub ratios-none : (ms : List Meter) (n i : ℕ) → n ≤ i → ratiosLeft ms n i ≡ true
-unfolding allMeters
-ratios-none ms n i h = ap (λ (k : ℕ). allMeters hasRatio (take k (drop i ms))) (sub-eq-zero_of_le h)
+pub ratios-none : (ms : List Meter) (n i : ℕ) → n ≤ i → ratios_left ms n i ≡ true
+unfolding all_meters
+ratios-none ms n i h = ap (λ (k : ℕ). all_meters has_ratio (take k (drop i ms))) (sub-eq-zero_of_le h)
 
 -- ---- the judgement
 
-abbrev pub judgedOf : MeterRead → MetersJudged
-judgedOf Refused = metersJudged.Refused 3
-judgedOf (Moved a t true) = metersJudged.Refused 4
-judgedOf (Moved a t false) = metersJudged.Read a t
+abbrev pub judged_of : MeterRead → MetersJudged
+judged_of Refused = metersJudged.Refused 3
+judged_of (Moved a t true) = metersJudged.Refused 4
+judged_of (Moved a t false) = metersJudged.Read a t
 
 -- All meters are read where all ratios are in range and all readings are accepted.
-all_read : (ms : List Meter) → allMeters isRead ms ≡ (allMeters hasRatio ms && allMeters isAccepted ms)
-unfolding allMeters
+all_read : (ms : List Meter) → all_meters is_read ms ≡ (all_meters has_ratio ms && all_meters is_accepted ms)
+unfolding all_meters
 all_read [] = refl
-all_read (m ∷ ms) = ap (◌&&◌ (isRead m)) (all_read ms) ∙ go (hasRatio m) (isAccepted m) (allMeters hasRatio ms) (allMeters isAccepted ms)
+all_read (m ∷ ms) = ap (◌&&◌ (is_read m)) (all_read ms) ∙ go (has_ratio m) (is_accepted m) (all_meters has_ratio ms) (all_meters is_accepted ms)
   where
     go : (a b c d : Bool) → ((a && b) && (c && d)) ≡ ((a && c) && (b && d))
     go true true c d = refl
@@ -238,13 +238,13 @@ all_read (m ∷ ms) = ap (◌&&◌ (isRead m)) (all_read ms) ∙ go (hasRatio m)
     go false b c d = refl
 
 -- Of ratios in their range.
-pub judged-by-reads : (dir : Direction) (ms : List Meter) → allMeters hasRatio ms ≡ true → judgedOf (metersRead dir ms) ≡ judgedReadings dir ms
-unfolding judgedReadings
+pub judged-by-reads : (dir : Direction) (ms : List Meter) → all_meters has_ratio ms ≡ true → judged_of (meters_read dir ms) ≡ judged_readings dir ms
+unfolding judged_readings
 judged-by-reads dir ms f =
-    rw (all_read ms, f) (go (allMeters isAccepted ms) (anyMeter runsBack ms) (roundedAdding dir ms) (roundedTaking dir ms))
+    rw (all_read ms, f) (go (all_meters is_accepted ms) (any_meter runs_back ms) (rounded_adding dir ms) (rounded_taking dir ms))
   where
     go : (s u : Bool) (x y : ℕ)
-        → judgedOf (cond s (Moved x y u) Refused)
+        → judged_of (cond s (Moved x y u) Refused)
         ≡ cond (not s) (metersJudged.Refused 3) (cond u (metersJudged.Refused 4) (metersJudged.Read x y))
     go true true x y = refl
     go true false x y = refl
@@ -253,12 +253,12 @@ judged-by-reads dir ms f =
 -- ---- the energy
 
 -- Where sums are read, there are at most four meters, and the sums are those of the first n.
-pub was_read : (dir : Direction) (n : ℕ) (ms : List Meter) (a t : ℕ) → judgedMeters dir n ms ≡ metersJudged.Read a t
-    → (leb n 4 ≡ true) × (roundedAdding dir (take n ms) ≡ a) × (roundedTaking dir (take n ms) ≡ t)
-unfolding judgedMeters judgedReadings
+pub was_read : (dir : Direction) (n : ℕ) (ms : List Meter) (a t : ℕ) → judged_meters dir n ms ≡ metersJudged.Read a t
+    → (leb n 4 ≡ true) × (rounded_adding dir (take n ms) ≡ a) × (rounded_taking dir (take n ms) ≡ t)
+unfolding judged_meters judged_readings
 was_read dir n ms a t e =
-    go (leb 1 n) (leb n 4) (allMeters hasRatio (take n ms)) (allMeters isAccepted (take n ms)) (anyMeter runsBack (take n ms))
-    (roundedAdding dir (take n ms)) (roundedTaking dir (take n ms)) e
+    go (leb 1 n) (leb n 4) (all_meters has_ratio (take n ms)) (all_meters is_accepted (take n ms)) (any_meter runs_back (take n ms))
+    (rounded_adding dir (take n ms)) (rounded_taking dir (take n ms)) e
   where
     go : (p q f s u : Bool) (x y : ℕ)
         → cond (p && q && f) (cond (not s) (metersJudged.Refused 3) (cond u (metersJudged.Refused 4) (metersJudged.Read x y))) (metersJudged.Refused 2)
@@ -272,8 +272,8 @@ was_read dir n ms a t e =
     go false q f s u x y r = (cc, cc, cc)
 
 -- Where an energy is accepted, it is the difference of the sums, within its limit.
-pub was_settled : (a t E : ℕ) → settledEnergy a t ≡ energyJudged.Accepted E → (E + t ≡ a) × (E ≤ limit)
-unfolding settledEnergy
+pub was_settled : (a t E : ℕ) → settled_energy a t ≡ energyJudged.Accepted E → (E + t ≡ a) × (E ≤ limit)
+unfolding settled_energy
 was_settled a t E e =
     let w = go (leb t a && leb a (t + limit)) e in
     let p = and_both (leb t a) (leb a (t + limit)) w.0 in
@@ -288,7 +288,7 @@ was_settled a t E e =
     difference h k d = omega arith
 
 -- An accepted energy is within its limit.
-pub energy-limit : (a t E : ℕ) → settledEnergy a t ≡ energyJudged.Accepted E → E ≤ limit
+pub energy-limit : (a t E : ℕ) → settled_energy a t ≡ energyJudged.Accepted E → E ≤ limit
 energy-limit a t E e = (was_settled a t E e).1
 
 -- The first n of a list are at most n.
@@ -299,23 +299,23 @@ taken-length n k xs h = simp length-take (omega arith)
 
 -- One reading of each of at most four meters, each less than 1 Wh off: their sum is less than 4 Wh off.
 readings-conservative : (dir : Direction) (reading : Meter → Reading) (ms : List Meter) → length ms ≤ 4
-    → Conservative dir (sum (map (λ (m : Meter). divided dir (exactBy m.ratio (reading m)) unit) ms))
-    (sum (map (λ (m : Meter). exactBy m.ratio (reading m)) ms) ÷ unit) (whole 4)
+    → Conservative dir (sum (map (λ (m : Meter). divided dir (exact_by m.ratio (reading m)) unit) ms))
+    (sum (map (λ (m : Meter). exact_by m.ratio (reading m)) ms) ÷ unit) (whole 4)
 readings-conservative dir reading ms few =
-    sum-conservative dir unit 4 unit-above-zero (omega arith) (λ (m : Meter). divided dir (exactBy m.ratio (reading m)) unit)
-    (λ (m : Meter). exactBy m.ratio (reading m)) ms few
+    sum-conservative dir unit 4 unit-above-zero (omega arith) (λ (m : Meter). divided dir (exact_by m.ratio (reading m)) unit)
+    (λ (m : Meter). exact_by m.ratio (reading m)) ms few
     (all_of (λ (m : Meter). reading-conservative dir m.ratio (reading m)) ms)
 
 -- An accepted energy stands on the safe side of the exact one, and is off by less than 8 Wh: 4 by what adds and 4 by what is taken.
 pub energy-conservative : (dir : Direction) (n : ℕ) (ms : List Meter) (a t E : ℕ)
-    → judgedMeters dir n ms ≡ metersJudged.Read a t → settledEnergy a t ≡ energyJudged.Accepted E
-    → Conservative dir E (exactEnergy (take n ms)) (8 ÷ 1)
-unfolding exactEnergy roundedAdding roundedTaking
+    → judged_meters dir n ms ≡ metersJudged.Read a t → settled_energy a t ≡ energyJudged.Accepted E
+    → Conservative dir E (exact_energy (take n ms)) (8 ÷ 1)
+unfolding exact_energy rounded_adding rounded_taking
 energy-conservative dir n ms a t E r s =
     let w = was_read dir n ms a t r in
     let few = taken-length n 4 ms (leb-true n 4 w.0) in
-    let x = sum (map (λ (m : Meter). exactBy m.ratio (adding m)) (take n ms)) in
-    let y = sum (map (λ (m : Meter). exactBy m.ratio (taking m)) (take n ms)) in
+    let x = sum (map (λ (m : Meter). exact_by m.ratio (adding m)) (take n ms)) in
+    let y = sum (map (λ (m : Meter). exact_by m.ratio (taking m)) (take n ms)) in
     less-conservative dir E a t x y unit 4 4 (was_settled a t E s).0
     (subst (λ (v : ℕ). Conservative dir v (x ÷ unit) (whole 4)) w.1 (readings-conservative dir adding (take n ms) few))
     (subst (λ (v : ℕ). Conservative (opposite dir) v (y ÷ unit) (whole 4)) w.2 (readings-conservative (opposite dir) taking (take n ms) few))

@@ -12,8 +12,8 @@ use borrow.Author.Tests.{le-ltb, lt-leb}
 use Rattle.rounding.specs.declared.Direction.TheVariants.{Up, Down}
 use Rattle.rounding.specs.Divided.{divided, sum}
 use Rattle.rounding.proofs.Divided.{up-odd, down_is}
-use Rattle.metering.specs.Reading.{unit, exactBy, exactRegister, isReadableRegister, ratioFits, accepted}
-use Rattle.metering.specs.Energy.{exactEnergy, roundedAdding, roundedTaking, allMeters, anyMeter, judgedReadings, judgedMeters, settledEnergy}
+use Rattle.metering.specs.Reading.{unit, exact_by, exact_register, is_readable_register, ratio_fits, accepted}
+use Rattle.metering.specs.Energy.{exact_energy, rounded_adding, rounded_taking, all_meters, any_meter, judged_readings, judged_meters, settled_energy}
 use Rattle.metering.specs.declared.Reading.TheVariants.{Single}
 use Rattle.metering.specs.declared.Sign.{Sign}
 use Rattle.metering.specs.declared.Sign.TheVariants.{Plus, Minus}
@@ -37,10 +37,10 @@ resting = record { ratio = 1; sign = Plus; interval = Counts 1000 1000 }
 abbrev creeping : Meter
 creeping = single 1 Minus 0x3f800000 0x3f800001
 
-pub zero-below-zero : (judgedMeters Up 2 (resting ∷ creeping ∷ []) ≡ metersJudged.Read 2000 2000)
-    × (settledEnergy 2000 2000 ≡ Accepted 0)
-    × ((exactEnergy (resting ∷ creeping ∷ [])).plus < (exactEnergy (resting ∷ creeping ∷ [])).minus)
-unfolding judgedMeters judgedReadings allMeters anyMeter roundedAdding roundedTaking sum divided exactRegister isReadableRegister of_bits settledEnergy exactEnergy
+pub zero-below-zero : (judged_meters Up 2 (resting ∷ creeping ∷ []) ≡ metersJudged.Read 2000 2000)
+    × (settled_energy 2000 2000 ≡ Accepted 0)
+    × ((exact_energy (resting ∷ creeping ∷ [])).plus < (exact_energy (resting ∷ creeping ∷ [])).minus)
+unfolding judged_meters judged_readings all_meters any_meter rounded_adding rounded_taking sum divided exact_register is_readable_register of_bits settled_energy exact_energy
 zero-below-zero = (refl, refl, lit< tt)
 
 -- ---- "a baseline source whose only meter is an unmoved register that is no whole Wh has E = -1 and is refused 6"
@@ -49,11 +49,11 @@ abbrev unmoved : ℕ → Sign → Float → Meter
 unmoved ratio s x = record { ratio = ratio; sign = s; interval = Singles record { first = x; last = x } }
 
 -- Rounded up it is one watt-hour more than rounded down.
-one_more : (x : ℕ) → x % unit ≢ 0 → divided Up x unit ≡ divided Down x unit + 1
-one_more x h = sym (up-odd x unit unit-above-zero h) ∙ ap (λ (q : ℕ). q + 1) (down_is x unit)
+one_more_lem : (x : ℕ) → x % unit ≢ 0 → divided Up x unit ≡ divided Down x unit + 1
+one_more_lem x h = sym (up-odd x unit unit-above-zero h) ∙ ap (λ (q : ℕ). q + 1) (down_is x unit)
 
-below-zero : (q : ℕ) → settledEnergy q (q + 1) ≡ Refused 6
-unfolding settledEnergy
+below-zero : (q : ℕ) → settled_energy q (q + 1) ≡ Refused 6
+unfolding settled_energy
 below-zero q = simp (lt-leb (q + 1) q (omega arith))
 
 only : (f a b : Bool) (p q : ℕ) → a ≡ true → b ≡ false → f ≡ true
@@ -65,22 +65,22 @@ only : (f a b : Bool) (p q : ℕ) → a ≡ true → b ≡ false → f ≡ true
 only f a b p q h k l = simp (h, k, l, add-zero)
 
 -- The same by any ratio: the product is no whole Wh.
-pub unmoved-refused : (ratio : ℕ) (s : Sign) (x : Float) (ms : List Meter) → ratioFits ratio ≡ true → accepted ratio (Single x) ≡ true
-    → exactBy ratio (Single x) % unit ≢ 0
-    → let q = divided Down (exactBy ratio (Single x)) unit in
-    (judgedMeters Down 1 (unmoved ratio s x ∷ ms) ≡ metersJudged.Read q (q + 1)) × (settledEnergy q (q + 1) ≡ Refused 6)
-unfolding judgedMeters judgedReadings allMeters anyMeter roundedAdding roundedTaking sum
+pub unmoved-refused : (ratio : ℕ) (s : Sign) (x : Float) (ms : List Meter) → ratio_fits ratio ≡ true → accepted ratio (Single x) ≡ true
+    → exact_by ratio (Single x) % unit ≢ 0
+    → let q = divided Down (exact_by ratio (Single x)) unit in
+    (judged_meters Down 1 (unmoved ratio s x ∷ ms) ≡ metersJudged.Read q (q + 1)) × (settled_energy q (q + 1) ≡ Refused 6)
+unfolding judged_meters judged_readings all_meters any_meter rounded_adding rounded_taking sum
 unmoved-refused ratio s x ms f h k =
-    let q = divided Down (exactBy ratio (Single x)) unit in
-    (go s ∙ ap (metersJudged.Read q) (one_more (exactBy ratio (Single x)) k), below-zero q)
+    let q = divided Down (exact_by ratio (Single x)) unit in
+    (go s ∙ ap (metersJudged.Read q) (one_more_lem (exact_by ratio (Single x)) k), below-zero q)
   where
     same : (n : ℕ) → ltb n n ≡ false
     same n = le-ltb n n (omega arith)
 
-    go : (s : Sign) → judgedMeters Down 1 (unmoved ratio s x ∷ ms)
-        ≡ metersJudged.Read (divided Down (exactBy ratio (Single x)) unit) (divided Up (exactBy ratio (Single x)) unit)
-    go Plus = only (ratioFits ratio) (accepted ratio (Single x)) _ _ _ h (same (exactBy ratio (Single x))) f
-    go Minus = only (ratioFits ratio) (accepted ratio (Single x)) _ _ _ h (same (exactBy ratio (Single x))) f
+    go : (s : Sign) → judged_meters Down 1 (unmoved ratio s x ∷ ms)
+        ≡ metersJudged.Read (divided Down (exact_by ratio (Single x)) unit) (divided Up (exact_by ratio (Single x)) unit)
+    go Plus = only (ratio_fits ratio) (accepted ratio (Single x)) _ _ _ h (same (exact_by ratio (Single x))) f
+    go Minus = only (ratio_fits ratio) (accepted ratio (Single x)) _ _ _ h (same (exact_by ratio (Single x))) f
 
 -- ---- "A reading's exact value is multiplied by it before rounding"
 
@@ -89,16 +89,16 @@ unmoved-refused ratio s x ms f h k =
 abbrev behind : List Meter
 behind = single 1000 Plus 0 0x42f6e979 ∷ single 3 Minus 0x3f800000 0x3f800001 ∷ []
 
-pub ratios-in-energy : (exactEnergy behind ≡ record { plus = (123459001 * 2048 + 577) * 2 ^ 138; minus = 3000 * (2 ^ 23 + 1) * 2 ^ 126; over = 2 ^ 149 })
-    × (judgedMeters Up 2 behind ≡ metersJudged.Read 123459002 3000)
-    × (settledEnergy 123459002 3000 ≡ Accepted 123456002)
-    × (judgedMeters Down 2 behind ≡ metersJudged.Read 123459001 3001)
-    × (settledEnergy 123459001 3001 ≡ Accepted 123456000)
-unfolding judgedMeters judgedReadings allMeters anyMeter roundedAdding roundedTaking sum divided exactRegister isReadableRegister of_bits settledEnergy exactEnergy
+pub ratios-in-energy : (exact_energy behind ≡ record { plus = (123459001 * 2048 + 577) * 2 ^ 138; minus = 3000 * (2 ^ 23 + 1) * 2 ^ 126; over = 2 ^ 149 })
+    × (judged_meters Up 2 behind ≡ metersJudged.Read 123459002 3000)
+    × (settled_energy 123459002 3000 ≡ Accepted 123456002)
+    × (judged_meters Down 2 behind ≡ metersJudged.Read 123459001 3001)
+    × (settled_energy 123459001 3001 ≡ Accepted 123456000)
+unfolding judged_meters judged_readings all_meters any_meter rounded_adding rounded_taking sum divided exact_register is_readable_register of_bits settled_energy exact_energy
 ratios-in-energy = (refl, refl, refl, refl, refl)
 
 -- At rest on a fraction a baseline source with a ratio of 10,000 is 1 Wh below zero, not 10,000.
-pub at-rest-behind : (judgedMeters Down 1 (single 10000 Plus 0x42f6e979 0x42f6e979 ∷ []) ≡ metersJudged.Read 1234560012 1234560013)
-    × (settledEnergy 1234560012 1234560013 ≡ Refused 6)
-unfolding judgedMeters judgedReadings allMeters anyMeter roundedAdding roundedTaking sum divided exactRegister isReadableRegister of_bits settledEnergy
+pub at-rest-behind : (judged_meters Down 1 (single 10000 Plus 0x42f6e979 0x42f6e979 ∷ []) ≡ metersJudged.Read 1234560012 1234560013)
+    × (settled_energy 1234560012 1234560013 ≡ Refused 6)
+unfolding judged_meters judged_readings all_meters any_meter rounded_adding rounded_taking sum divided exact_register is_readable_register of_bits settled_energy
 at-rest-behind = (refl, refl)

@@ -18,14 +18,14 @@ use lib.Ieee.Fits.{down_pos}
 use lib.Ieee.Positive.{first_pos}
 use borrow.Author.Tests.{le-leb, lt-leb, ne_eqb}
 use Rattle.rounding.proofs.Tests.{and_both, ltb-kept}
-use Rattle.metering.specs.Reading.{unit, limit, exactRegister, isReadableRegister, accepted}
+use Rattle.metering.specs.Reading.{unit, limit, exact_register, is_readable_register, accepted}
 use Rattle.metering.specs.Steps.{magnitude}
 use Rattle.metering.specs.declared.Reading.TheVariants.{Single}
 
 -- ---- a register by its value: a × 2 ^ -149 kWh is 1,000 × a units
 
-exact-of : (v : Float) (s : Bool) (a : ℕ) → HasValue v s a (2 ^ 149) → exactRegister v ≡ 1000 * a
-unfolding exactRegister
+exact-of : (v : Float) (s : Bool) (a : ℕ) → HasValue v s a (2 ^ 149) → exact_register v ≡ 1000 * a
+unfolding exact_register
 exact-of nan s a h = absurd h
 exact-of (inf t) s a h = absurd h
 exact-of (fin t m e) s a h =
@@ -33,15 +33,15 @@ exact-of (fin t m e) s a h =
     (mul_assoc 1000 (m * up e) (2 ^ 149) ∙ ap (λ (x : ℕ). 1000 * x) h.1 ∙ sym (mul_assoc 1000 a (down e)))
     ∙ mul-div_cancel (1000 * a) (down_pos e)
 
-not-below : (v : Float) (a c : ℕ) → HasValue v false a c → isReadableRegister v ≡ true
-unfolding isReadableRegister
+not-below : (v : Float) (a c : ℕ) → HasValue v false a c → is_readable_register v ≡ true
+unfolding is_readable_register
 not-below nan a c h = absurd h
 not-below (inf t) a c h = absurd h
 not-below (fin true m e) a c h = absurd (true≢false h.0)
 not-below (fin false m e) a c h = refl
 
-below-zero : (v : Float) (a c : ℕ) → 0 < a → HasValue v true a c → isReadableRegister v ≡ false
-unfolding isReadableRegister
+below-zero : (v : Float) (a c : ℕ) → 0 < a → HasValue v true a c → is_readable_register v ≡ false
+unfolding is_readable_register
 below-zero nan a c p h = absurd h
 below-zero (inf t) a c p h = absurd h
 below-zero (fin false m e) a c p h = absurd (true≢false (sym h.0))
@@ -56,13 +56,13 @@ below-zero (fin true m e) a c p h =
 abbrev pub field_of : ℕ → ℕ
 field_of b = b % 2147483648 / 8388608
 
-abbrev pub digitsOf : ℕ → ℕ
-digitsOf b = b % 8388608
+abbrev pub digits_of : ℕ → ℕ
+digits_of b = b % 8388608
 
-abbrev isMinus : ℕ → Bool
-isMinus b = leb 2147483648 b
+abbrev is_minus : ℕ → Bool
+is_minus b = leb 2147483648 b
 
-fields : (b : ℕ) → of_bits binary32 b ≡ of_fields binary32 (isMinus b) (field_of b) (digitsOf b)
+fields : (b : ℕ) → of_bits binary32 b ≡ of_fields binary32 (is_minus b) (field_of b) (digits_of b)
 unfolding of_bits
 fields b = refl
 
@@ -71,8 +71,8 @@ abbrev size : ℕ → ℕ → ℕ
 size zero t = t
 size (suc x) t = (8388608 + t) * 2 ^ x
 
-abbrev patternSize : ℕ → ℕ
-patternSize b = size (field_of b) (digitsOf b)
+abbrev pattern_size : ℕ → ℕ
+pattern_size b = size (field_of b) (digits_of b)
 
 magnitude-is : (x t : ℕ) → 1000 * size x t ≡ magnitude x t
 unfolding magnitude
@@ -96,15 +96,15 @@ at_top : (s : Bool) (t : ℕ) → of_fields binary32 s 255 t ≡ cond (eqb t 0) 
 unfolding of_fields
 at_top s t = refl
 
-no_number : (a s : Bool) → isReadableRegister (cond a (inf s) nan) ≡ false
-unfolding isReadableRegister
+no_number : (a s : Bool) → is_readable_register (cond a (inf s) nan) ≡ false
+unfolding is_readable_register
 no_number true s = refl
 no_number false s = refl
 
 -- The field is below 255, or the pattern is that of an infinity or a NaN.
-finite-or-not : (b : ℕ) → (field_of b < 255) ⊎ (of_bits binary32 b ≡ cond (eqb (digitsOf b) 0) (inf (isMinus b)) nan)
+finite-or-not : (b : ℕ) → (field_of b < 255) ⊎ (of_bits binary32 b ≡ cond (eqb (digits_of b) 0) (inf (is_minus b)) nan)
 finite-or-not b = elim (eq-or-lt_of_le (top b)) [
-  | inl e ↦ inr (fields b ∙ ap (λ (x : ℕ). of_fields binary32 (isMinus b) x (digitsOf b)) e ∙ at_top (isMinus b) (digitsOf b))
+  | inl e ↦ inr (fields b ∙ ap (λ (x : ℕ). of_fields binary32 (is_minus b) x (digits_of b)) e ∙ at_top (is_minus b) (digits_of b))
   | inr l ↦ inl l
 ]
   where
@@ -112,21 +112,21 @@ finite-or-not b = elim (eq-or-lt_of_le (top b)) [
     top b = omega arith
 
 -- The same of a number: the field is below 255, or it is none.
-number-or-not : (b : ℕ) → (field_of b < 255) ⊎ (isReadableRegister (of_bits binary32 b) ≡ false)
+number-or-not : (b : ℕ) → (field_of b < 255) ⊎ (is_readable_register (of_bits binary32 b) ≡ false)
 number-or-not b = elim (finite-or-not b) [
   | inl l ↦ inl l
-  | inr e ↦ inr (ap isReadableRegister e ∙ no_number (eqb (digitsOf b) 0) (isMinus b))
+  | inr e ↦ inr (ap is_readable_register e ∙ no_number (eqb (digits_of b) 0) (is_minus b))
 ]
 
-pattern-value : (b : ℕ) → field_of b < 255 → HasValue (of_bits binary32 b) (isMinus b) (patternSize b) (2 ^ 149)
+pattern-value : (b : ℕ) → field_of b < 255 → HasValue (of_bits binary32 b) (is_minus b) (pattern_size b) (2 ^ 149)
 pattern-value b l =
-    subst (λ (v : Float). HasValue v (isMinus b) (patternSize b) (2 ^ 149)) (sym (fields b))
-    (value (isMinus b) (field_of b) (digitsOf b) l)
+    subst (λ (v : Float). HasValue v (is_minus b) (pattern_size b) (2 ^ 149)) (sym (fields b))
+    (value (is_minus b) (field_of b) (digits_of b) l)
 
-pub exact-at : (b : ℕ) → field_of b < 255 → exactRegister (of_bits binary32 b) ≡ magnitude (field_of b) (digitsOf b)
+pub exact-at : (b : ℕ) → field_of b < 255 → exact_register (of_bits binary32 b) ≡ magnitude (field_of b) (digits_of b)
 exact-at b l =
-    exact-of (of_bits binary32 b) (isMinus b) (patternSize b) (pattern-value b l)
-    ∙ magnitude-is (field_of b) (digitsOf b)
+    exact-of (of_bits binary32 b) (is_minus b) (pattern_size b) (pattern-value b l)
+    ∙ magnitude-is (field_of b) (digits_of b)
 
 -- ---- which patterns are those of numbers from 0
 
@@ -137,36 +137,36 @@ size-pos (suc x) t h = mul-pos (positive t) (pow_pos x)
     positive : (t : ℕ) → 0 < 8388608 + t
     positive t = omega arith
 
-minus-zero : isReadableRegister (of_bits binary32 2147483648) ≡ true
-unfolding of_bits isReadableRegister
+minus-zero : is_readable_register (of_bits binary32 2147483648) ≡ true
+unfolding of_bits is_readable_register
 minus-zero = refl
 
-number_at : (b : ℕ) → b ≤ 2147483648 → field_of b < 255 → isReadableRegister (of_bits binary32 b) ≡ true
+number_at : (b : ℕ) → b ≤ 2147483648 → field_of b < 255 → is_readable_register (of_bits binary32 b) ≡ true
 number_at b h l = elim (eq-or-lt_of_le h) [
-  | inl e ↦ ap (λ (x : ℕ). isReadableRegister (of_bits binary32 x)) e ∙ minus-zero
-  | inr k ↦ not-below (of_bits binary32 b) (patternSize b) (2 ^ 149)
-      (subst (λ (s : Bool). HasValue (of_bits binary32 b) s (patternSize b) (2 ^ 149)) (lt-leb 2147483648 b k) (pattern-value b l))
+  | inl e ↦ ap (λ (x : ℕ). is_readable_register (of_bits binary32 x)) e ∙ minus-zero
+  | inr k ↦ not-below (of_bits binary32 b) (pattern_size b) (2 ^ 149)
+      (subst (λ (s : Bool). HasValue (of_bits binary32 b) s (pattern_size b) (2 ^ 149)) (lt-leb 2147483648 b k) (pattern-value b l))
 ]
 
-pub below_at : (b : ℕ) → b < 4294967296 → 2147483648 < b → isReadableRegister (of_bits binary32 b) ≡ false
+pub below_at : (b : ℕ) → b < 4294967296 → 2147483648 < b → is_readable_register (of_bits binary32 b) ≡ false
 below_at b w h = elim (number-or-not b) [
-  | inl l ↦ below-zero (of_bits binary32 b) (patternSize b) (2 ^ 149)
-      (size-pos (field_of b) (digitsOf b) (omega arith))
-      (subst (λ (s : Bool). HasValue (of_bits binary32 b) s (patternSize b) (2 ^ 149)) (le-leb 2147483648 b (omega arith))
+  | inl l ↦ below-zero (of_bits binary32 b) (pattern_size b) (2 ^ 149)
+      (size-pos (field_of b) (digits_of b) (omega arith))
+      (subst (λ (s : Bool). HasValue (of_bits binary32 b) s (pattern_size b) (2 ^ 149)) (le-leb 2147483648 b (omega arith))
       (pattern-value b l))
   | inr e ↦ e
 ]
 
 -- ---- what is accepted
 
-pub no-number-refused : (ratio : ℕ) (v : Float) → isReadableRegister v ≡ false → accepted ratio (Single v) ≡ false
-no-number-refused ratio v h = ap (λ (t : Bool). t && leb (exactRegister v * ratio) (limit * unit)) h
+pub no-number-refused : (ratio : ℕ) (v : Float) → is_readable_register v ≡ false → accepted ratio (Single v) ≡ false
+no-number-refused ratio v h = ap (λ (t : Bool). t && leb (exact_register v * ratio) (limit * unit)) h
 
 -- A pattern from 0 is accepted by its magnitude times the ratio.
 pub accepted-at : (ratio b : ℕ) → b ≤ 2147483648 → field_of b < 255
-    → accepted ratio (Single (of_bits binary32 b)) ≡ leb (magnitude (field_of b) (digitsOf b) * ratio) (limit * unit)
+    → accepted ratio (Single (of_bits binary32 b)) ≡ leb (magnitude (field_of b) (digits_of b) * ratio) (limit * unit)
 accepted-at ratio b h l =
-    ap (λ (t : Bool). t && leb (exactRegister (of_bits binary32 b) * ratio) (limit * unit)) (number_at b h l)
+    ap (λ (t : Bool). t && leb (exact_register (of_bits binary32 b) * ratio) (limit * unit)) (number_at b h l)
     ∙ ap (λ (n : ℕ). leb (n * ratio) (limit * unit)) (exact-at b l)
 
 -- From field 154 a magnitude is above the limit. The unit is a variable: `omega` takes no number of more than 38 digits.
@@ -189,7 +189,7 @@ magnitude-beyond (suc x) t h =
 -- So is its product with every ratio.
 pub beyond-at : (ratio b : ℕ) → 1 ≤ ratio → b ≤ 2147483648 → 153 < field_of b → accepted ratio (Single (of_bits binary32 b)) ≡ false
 beyond-at ratio b p h k = elim (number-or-not b) [
-  | inl l ↦ accepted-at ratio b h l ∙ lt-leb _ _ (more (limit * unit) _ (magnitude-beyond (field_of b) (digitsOf b) k))
+  | inl l ↦ accepted-at ratio b h l ∙ lt-leb _ _ (more (limit * unit) _ (magnitude-beyond (field_of b) (digits_of b) k))
   | inr e ↦ no-number-refused ratio (of_bits binary32 b) e
 ]
   where
@@ -205,14 +205,14 @@ no_nan (inf s) h = tt
 no_nan (fin s m e) h = tt
 
 pub nan-refused : (ratio : ℕ) (x : Float) → ne x x ≡ true → accepted ratio (Single x) ≡ false
-unfolding isReadableRegister
-nan-refused ratio x h = no-number-refused ratio x (ap isReadableRegister (differs_from_itself x (subst T (sym h) tt)))
+unfolding is_readable_register
+nan-refused ratio x h = no-number-refused ratio x (ap is_readable_register (differs_from_itself x (subst T (sym h) tt)))
 
-pub accepted-number : (ratio : ℕ) (x : Float) → accepted ratio (Single x) ≡ true → isReadableRegister x ≡ true
-accepted-number ratio x h = (and_both (isReadableRegister x) _ h).0
+pub accepted-number : (ratio : ℕ) (x : Float) → accepted ratio (Single x) ≡ true → is_readable_register x ≡ true
+accepted-number ratio x h = (and_both (is_readable_register x) _ h).0
 
-pub number-no-nan : (x : Float) → isReadableRegister x ≡ true → T (not (is_nan x))
-unfolding is_nan isReadableRegister
+pub number-no-nan : (x : Float) → is_readable_register x ≡ true → T (not (is_nan x))
+unfolding is_nan is_readable_register
 number-no-nan nan h = absurd (true≢false (sym h))
 number-no-nan (inf s) h = tt
 number-no-nan (fin s m e) h = tt
@@ -247,8 +247,8 @@ size_of k = size (k / 8388608) (k % 8388608)
 
 size-order : (a b : ℕ) → a < b → size_of a < size_of b
 size-order a b h = elim (eq-or-lt_of_le (fields-order a b h)) [
-  | inl e ↦ subst (λ (x : ℕ). size_of a < size x (digitsOf b)) e (size-digits (a / 8388608) (digitsOf a) (digitsOf b) (digits-order a b h e))
-  | inr l ↦ lt_of_lt_of_le (size-under (a / 8388608) (digitsOf a) (omega arith)) (size-over (a / 8388608) (b / 8388608) (digitsOf b) l)
+  | inl e ↦ subst (λ (x : ℕ). size_of a < size x (digits_of b)) e (size-digits (a / 8388608) (digits_of a) (digits_of b) (digits-order a b h e))
+  | inr l ↦ lt_of_lt_of_le (size-under (a / 8388608) (digits_of a) (omega arith)) (size-over (a / 8388608) (b / 8388608) (digits_of b) l)
 ]
   where
     fields-order : (a b : ℕ) → a < b → a / 8388608 ≤ b / 8388608
@@ -257,28 +257,28 @@ size-order a b h = elim (eq-or-lt_of_le (fields-order a b h)) [
     digits-order : (a b : ℕ) → a < b → a / 8388608 ≡ b / 8388608 → a % 8388608 < b % 8388608
     digits-order a b h e = omega arith
 
-number-field : (b : ℕ) → isReadableRegister (of_bits binary32 b) ≡ true → field_of b < 255
+number-field : (b : ℕ) → is_readable_register (of_bits binary32 b) ≡ true → field_of b < 255
 number-field b h = elim (number-or-not b) [ inl l ↦ l | inr e ↦ absurd (true≢false (sym h ∙ e)) ]
 
-exact_key : (x : Float) → T (fits binary32 x) → isReadableRegister x ≡ true → exactRegister x ≡ 1000 * size_of (to_bits binary32 x % 2147483648)
+exact_key : (x : Float) → T (fits binary32 x) → is_readable_register x ≡ true → exact_register x ≡ 1000 * size_of (to_bits binary32 x % 2147483648)
 exact_key x f h =
     let b = to_bits binary32 x in
     let r = of_bits-to_bits binary32 x f in
-    ap exactRegister (sym r)
-    ∙ exact-at b (number-field b (ap isReadableRegister r ∙ h))
-    ∙ sym (magnitude-is (field_of b) (digitsOf b))
+    ap exact_register (sym r)
+    ∙ exact-at b (number-field b (ap is_readable_register r ∙ h))
+    ∙ sym (magnitude-is (field_of b) (digits_of b))
     ∙ ap (λ (t : ℕ). 1000 * size (field_of b) t) (digits b)
   where
-    digits : (b : ℕ) → digitsOf b ≡ b % 2147483648 % 8388608
+    digits : (b : ℕ) → digits_of b ≡ b % 2147483648 % 8388608
     digits b = omega arith
 
 -- The patterns of two numbers, read as integers without the sign, are in the order of their exact values.
-pub pattern-order : (x y : Float) → T (fits binary32 x) → T (fits binary32 y) → isReadableRegister x ≡ true → isReadableRegister y ≡ true
-    → ltb (to_bits binary32 x % 2147483648) (to_bits binary32 y % 2147483648) ≡ ltb (exactRegister x) (exactRegister y)
+pub pattern-order : (x y : Float) → T (fits binary32 x) → T (fits binary32 y) → is_readable_register x ≡ true → is_readable_register y ≡ true
+    → ltb (to_bits binary32 x % 2147483648) (to_bits binary32 y % 2147483648) ≡ ltb (exact_register x) (exact_register y)
 pattern-order x y f g h k =
     let a = to_bits binary32 x % 2147483648 in
     ltb-kept (λ (n : ℕ). 1000 * size_of n) keeps a (to_bits binary32 y % 2147483648)
-    ∙ sym (ap (λ (n : ℕ). ltb n (exactRegister y)) (exact_key x f h) ∙ ap (ltb (1000 * size_of a)) (exact_key y g k))
+    ∙ sym (ap (λ (n : ℕ). ltb n (exact_register y)) (exact_key x f h) ∙ ap (ltb (1000 * size_of a)) (exact_key y g k))
   where
     times : (a b : ℕ) → a < b → 1000 * a < 1000 * b
     times a b l = omega arith
@@ -286,12 +286,12 @@ pattern-order x y f g h k =
     keeps : (a b : ℕ) → a < b → 1000 * size_of a < 1000 * size_of b
     keeps a b l = times (size_of a) (size_of b) (size-order a b l)
 
--- ---- the division in `exactRegister` leaves nothing over
+-- ---- the division in `exact_register` leaves nothing over
 
 finite-field : (b : ℕ) (s : Bool) (m : ℕ) (e : ℤ) → of_bits binary32 b ≡ fin s m e → field_of b < 255
 finite-field b s m e r = elim (finite-or-not b) [
   | inl l ↦ l
-  | inr k ↦ absurd (apart (eqb (digitsOf b) 0) (isMinus b) (sym r ∙ k))
+  | inr k ↦ absurd (apart (eqb (digits_of b) 0) (is_minus b) (sym r ∙ k))
 ]
   where
     apart : (t z : Bool) → fin s m e ≡ cond t (inf z) nan → ⊥
@@ -299,15 +299,15 @@ finite-field b s m e r = elim (finite-or-not b) [
     apart false z h = let k : ◌≡◌ {A = ℕ} 0 1 = cc in omega arith
 
 pub exact-register : (s : Bool) (m : ℕ) (e : ℤ) → T (fits binary32 (fin s m e))
-    → exactRegister (fin s m e) * down e ≡ 1000 * (m * up e) * unit
+    → exact_register (fin s m e) * down e ≡ 1000 * (m * up e) * unit
 exact-register s m e f =
     let b = to_bits binary32 (fin s m e) in
     let r = of_bits-to_bits binary32 (fin s m e) f in
-    cross (isMinus b) (patternSize b)
-    (subst (λ (v : Float). HasValue v (isMinus b) (patternSize b) (2 ^ 149)) r
+    cross (is_minus b) (pattern_size b)
+    (subst (λ (v : Float). HasValue v (is_minus b) (pattern_size b) (2 ^ 149)) r
     (pattern-value b (finite-field b s m e r)))
   where
-    cross : (z : Bool) (a : ℕ) → HasValue (fin s m e) z a unit → exactRegister (fin s m e) * down e ≡ 1000 * (m * up e) * unit
+    cross : (z : Bool) (a : ℕ) → HasValue (fin s m e) z a unit → exact_register (fin s m e) * down e ≡ 1000 * (m * up e) * unit
     cross z a h =
         ap (λ (x : ℕ). x * down e) (exact-of (fin s m e) z a h)
         ∙ mul_assoc 1000 a (down e)

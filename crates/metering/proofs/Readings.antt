@@ -9,14 +9,14 @@ use lib.Pow.{pow_pos}
 use borrow.Author.Tests.{le-leb, lt-leb, leb-true, leb-false}
 use Rattle.rounding.specs.declared.Direction.{Direction}
 use Rattle.rounding.specs.declared.Direction.TheVariants.{Up}
-use Rattle.rounding.specs.Outcome.{refused, given, refuseUnless}
+use Rattle.rounding.specs.Outcome.{refused, given, refuse_unless}
 use Rattle.rounding.specs.Divided.{divided}
 use Rattle.rounding.specs.Ratio.{◌÷◌, whole, Conservative}
 use Rattle.rounding.proofs.Divided.{rounds, divided-at-most, divided-up-bounds, divided-whole}
 use Rattle.rounding.proofs.Ratio.{rounds-conservative}
 use Rattle.rounding.proofs.Outcomes.{never-given, given_is, test-held}
 use Rattle.rounding.proofs.Tests.{and_both}
-use Rattle.metering.specs.Reading.{unit, limit, exactBy, isReadable, ratioFits, accepted, wattHours}
+use Rattle.metering.specs.Reading.{unit, limit, exact_by, is_readable, ratio_fits, accepted, watt_hours}
 use Rattle.metering.specs.declared.Reading.{Reading}
 use Rattle.metering.specs.declared.Reading.TheVariants.{Whole}
 
@@ -24,44 +24,44 @@ pub unit-above-zero : 0 < unit
 unit-above-zero = pow_pos 149
 
 -- A ratio in its range is not 0.
-pub ratio-above-zero : (ratio : ℕ) → ratioFits ratio ≡ true → 1 ≤ ratio
+pub ratio-above-zero : (ratio : ℕ) → ratio_fits ratio ≡ true → 1 ≤ ratio
 ratio-above-zero ratio h = leb-true 1 ratio (and_both (leb 1 ratio) _ h).0
 
 module _ (dir : Direction) (ratio : ℕ) (r : Reading) where
-  pub rounded : (q : ℕ) → ratioFits ratio ≡ true → accepted ratio r ≡ true → divided dir (exactBy ratio r) unit ≡ q → given q ≡ wattHours dir ratio r
+  pub rounded : (q : ℕ) → ratio_fits ratio ≡ true → accepted ratio r ≡ true → divided dir (exact_by ratio r) unit ≡ q → given q ≡ watt_hours dir ratio r
   rounded q f a e = sym (rw (f, a, e))
 
-  pub out_of_range : ratioFits ratio ≡ false → refused 2 ≡ wattHours dir ratio r
+  pub out_of_range : ratio_fits ratio ≡ false → refused 2 ≡ watt_hours dir ratio r
   out_of_range f = sym (rw f)
 
-  pub declined : ratioFits ratio ≡ true → accepted ratio r ≡ false → refused 3 ≡ wattHours dir ratio r
+  pub declined : ratio_fits ratio ≡ true → accepted ratio r ≡ false → refused 3 ≡ watt_hours dir ratio r
   declined f a = sym (rw (f, a))
 
   -- And back.
-  pub was-rounded : (q : ℕ) → wattHours dir ratio r ≡ given q
-      → (ratioFits ratio ≡ true) × (accepted ratio r ≡ true) × (divided dir (exactBy ratio r) unit ≡ q)
+  pub was-rounded : (q : ℕ) → watt_hours dir ratio r ≡ given q
+      → (ratio_fits ratio ≡ true) × (accepted ratio r ≡ true) × (divided dir (exact_by ratio r) unit ≡ q)
   was-rounded q e =
-      let f = test-held 2 (ratioFits ratio) _ e in
-      let p = test-held 3 (accepted ratio r) (given (divided dir (exactBy ratio r) unit)) f.1 in
+      let f = test-held 2 (ratio_fits ratio) _ e in
+      let p = test-held 3 (accepted ratio r) (given (divided dir (exact_by ratio r) unit)) f.1 in
       (f.0, p.0, given_is p.1)
 
-  pub was-declined : (n : ℕ) → wattHours dir ratio r ≡ refused n → (ratioFits ratio && accepted ratio r) ≡ false
-  was-declined n e = go (ratioFits ratio) (accepted ratio r) e
+  pub was-declined : (n : ℕ) → watt_hours dir ratio r ≡ refused n → (ratio_fits ratio && accepted ratio r) ≡ false
+  was-declined n e = go (ratio_fits ratio) (accepted ratio r) e
     where
-      go : (f t : Bool) → refuseUnless 2 f (refuseUnless 3 t (given (divided dir (exactBy ratio r) unit))) ≡ refused n → (f && t) ≡ false
+      go : (f t : Bool) → refuse_unless 2 f (refuse_unless 3 t (given (divided dir (exact_by ratio r) unit))) ≡ refused n → (f && t) ≡ false
       go true true h = absurd (never-given (sym h))
       go true false h = refl
       go false t h = refl
 
-  pub rounded-within : accepted ratio r ≡ true → divided dir (exactBy ratio r) unit ≤ limit
+  pub rounded-within : accepted ratio r ≡ true → divided dir (exact_by ratio r) unit ≤ limit
   rounded-within h =
-      divided-at-most dir (exactBy ratio r) unit limit unit-above-zero
-      (leb-true (exactBy ratio r) (limit * unit) (and_both (isReadable r) _ h).1)
+      divided-at-most dir (exact_by ratio r) unit limit unit-above-zero
+      (leb-true (exact_by ratio r) (limit * unit) (and_both (is_readable r) _ h).1)
 
   -- A reading's watt-hours stand on the safe side of its exact value in Wh, less than 1 Wh off.
-  pub reading-conservative : Conservative dir (divided dir (exactBy ratio r) unit) (exactBy ratio r ÷ unit) (whole 1)
+  pub reading-conservative : Conservative dir (divided dir (exact_by ratio r) unit) (exact_by ratio r ÷ unit) (whole 1)
   reading-conservative =
-      rounds-conservative dir (exactBy ratio r) unit (divided dir (exactBy ratio r) unit) (rounds dir (exactBy ratio r) unit unit-above-zero)
+      rounds-conservative dir (exact_by ratio r) unit (divided dir (exact_by ratio r) unit) (rounds dir (exact_by ratio r) unit unit-above-zero)
 
 -- An exact value is within the limit exactly where it is, rounded up.
 pub limit-rounded : (x : ℕ) → leb x (limit * unit) ≡ leb (divided Up x unit) limit
@@ -76,8 +76,8 @@ limit-rounded x = go (leb (divided Up x unit) limit) refl
 
 -- ---- a whole reading
 
-module _ (dir : Direction) (ratio w : ℕ) (f : ratioFits ratio ≡ true) where
-  product : exactBy ratio (Whole w) ≡ w * ratio * unit
+module _ (dir : Direction) (ratio w : ℕ) (f : ratio_fits ratio ≡ true) where
+  product : exact_by ratio (Whole w) ≡ w * ratio * unit
   product = go unit
     where
       go : (u : ℕ) → w * u * ratio ≡ w * ratio * u
@@ -86,14 +86,14 @@ module _ (dir : Direction) (ratio w : ℕ) (f : ratioFits ratio ≡ true) where
   judged : (t : Bool) → leb (w * ratio * unit) (limit * unit) ≡ t → accepted ratio (Whole w) ≡ t
   judged t e = ap (λ (n : ℕ). leb n (limit * unit)) product ∙ e
 
-  pub whole-within : w * ratio ≤ limit → given (w * ratio) ≡ wattHours dir ratio (Whole w)
+  pub whole-within : w * ratio ≤ limit → given (w * ratio) ≡ watt_hours dir ratio (Whole w)
   whole-within k =
       rounded dir ratio (Whole w) (w * ratio) f (judged true (le-leb _ _ (mul-le-mul_right unit k)))
       (ap (λ (n : ℕ). divided dir n unit) product ∙ divided-whole dir (w * ratio) unit unit-above-zero)
 
-  pub whole-beyond : limit < w * ratio → refused 3 ≡ wattHours dir ratio (Whole w)
+  pub whole-beyond : limit < w * ratio → refused 3 ≡ watt_hours dir ratio (Whole w)
   whole-beyond k = declined dir ratio (Whole w) f (judged false (lt-leb _ _ (mul-lt-mul_of_pos_right k unit-above-zero)))
 
   -- A count above the limit is so by every ratio.
-  pub count-beyond : limit < w → refused 3 ≡ wattHours dir ratio (Whole w)
+  pub count-beyond : limit < w → refused 3 ≡ watt_hours dir ratio (Whole w)
   count-beyond k = whole-beyond (omega (arith, mul-le-mul_left w (ratio-above-zero ratio f)))

@@ -10,7 +10,7 @@ use Rattle.rounding.specs.declared.Direction.TheVariants.{Up, Down}
 use Rattle.rounding.specs.Divided.{divided}
 use Rattle.rounding.proofs.Divided.{divided-is, divided-scaled, down_is, up-even, up-odd}
 use Rattle.metering.specs.Reading.{unit}
-use Rattle.metering.specs.Steps.{magnitude, roundedBothWays}
+use Rattle.metering.specs.Steps.{magnitude, rounded_both_ways}
 use Rattle.metering.specs.declared.Bounds.{Bounds}
 
 -- ---- the shift loses what the division by the unit loses
@@ -113,18 +113,18 @@ some-lost : (n d : ℕ) → n / d * d ≢ n → n % d ≢ 0
 some-lost n d e z = e (omega (arith, div-add-mod' n d))
 
 both_ways : (x p q : ℕ) → p ≡ divided Down x unit → q ≡ divided Up x unit
-    → ◌≡◌ {A = Bounds} record { down = p; up = q } (roundedBothWays x)
+    → ◌≡◌ {A = Bounds} record { down = p; up = q } (rounded_both_ways x)
 both_ways x p q d u = rw (d, u)
 
 module _ (x n k : ℕ) (fits : n < 2 ^ 64) (is : (dir : Direction) → divided dir n (2 ^ k) ≡ divided dir x unit) where
   pub exact-both : n / 2 ^ k * 2 ^ k % 2 ^ 64 ≡ n
-      → ◌≡◌ {A = Bounds} record { down = n / 2 ^ k; up = n / 2 ^ k } (roundedBothWays x)
+      → ◌≡◌ {A = Bounds} record { down = n / 2 ^ k; up = n / 2 ^ k } (rounded_both_ways x)
   exact-both e =
       both_ways x (n / 2 ^ k) (n / 2 ^ k) (down_is n (2 ^ k) ∙ is Down)
       (up-even n (2 ^ k) (pow_pos k) (none-lost n (2 ^ k) (sym (back n k fits) ∙ e)) ∙ is Up)
 
   pub inexact-both : n / 2 ^ k * 2 ^ k % 2 ^ 64 ≢ n
-      → ◌≡◌ {A = Bounds} record { down = n / 2 ^ k; up = n / 2 ^ k + 1 } (roundedBothWays x)
+      → ◌≡◌ {A = Bounds} record { down = n / 2 ^ k; up = n / 2 ^ k + 1 } (rounded_both_ways x)
   inexact-both e =
       both_ways x (n / 2 ^ k) (n / 2 ^ k + 1) (down_is n (2 ^ k) ∙ is Down)
       (up-odd n (2 ^ k) (pow_pos k) (some-lost n (2 ^ k) (λ z. e (back n k fits ∙ z))) ∙ is Up)

@@ -2,7 +2,7 @@
 use Rattle.std.specs.Prelude.{ℕ, ◌*◌, ◌/◌, ◌^◌, Bool, true, false, not, ◌&&◌, ◌||◌, leb, eqb, Float}
 use Rattle.std.specs.Float.{nan, inf, fin}
 use Rattle.std.specs.Float.Ieee.{up, down}
-use Rattle.rounding.specs.Outcome.{Outcome, refused, given, refuseUnless}
+use Rattle.rounding.specs.Outcome.{Outcome, refused, given, refuse_unless}
 use Rattle.rounding.specs.Divided.{divided}
 use Rattle.rounding.specs.declared.Direction.{Direction}
 use Rattle.metering.specs.declared.Reading.{Reading}
@@ -21,48 +21,48 @@ limit = 100000000000
 -- "A single's exact value in Wh is 1,000 times the register." A finite register is m × up e ÷ down e kWh, with its sign apart. What is no
 -- number has no value; it is refused. A register is a binary32 value, and the definitions give a meaning to no float of another width: only
 -- of binary32 does the division leave nothing over (`exact-register`).
-unfoldable pub exactRegister : Float → ℕ
-exactRegister nan = 0
-exactRegister (inf s) = 0
-exactRegister (fin s m e) = 1000 * (m * up e) * unit / down e
+unfoldable pub exact_register : Float → ℕ
+exact_register nan = 0
+exact_register (inf s) = 0
+exact_register (fin s m e) = 1000 * (m * up e) * unit / down e
 
 -- The exact value of a reading without its meter's ratio, in units.
 abbrev pub exact : Reading → ℕ
 exact (Whole w) = w * unit
-exact (Single x) = exactRegister x
+exact (Single x) = exact_register x
 
 -- "A reading's exact value is multiplied by it before rounding" (document 02, wish 4): by the ratio of the meter.
-abbrev pub exactBy : ℕ → Reading → ℕ
-exactBy ratio r = exact r * ratio
+abbrev pub exact_by : ℕ → Reading → ℕ
+exact_by ratio r = exact r * ratio
 
 -- "3 .. a register below zero, infinite or not a number": s is the sign. "Negative zero is zero."
-unfoldable pub isReadableRegister : Float → Bool
-isReadableRegister nan = false
-isReadableRegister (inf s) = false
-isReadableRegister (fin s m e) = not s || eqb m 0
+unfoldable pub is_readable_register : Float → Bool
+is_readable_register nan = false
+is_readable_register (inf s) = false
+is_readable_register (fin s m e) = not s || eqb m 0
 
-abbrev pub isReadable : Reading → Bool
-isReadable (Whole w) = true
-isReadable (Single x) = isReadableRegister x
+abbrev pub is_readable : Reading → Bool
+is_readable (Whole w) = true
+is_readable (Single x) = is_readable_register x
 
 -- What number 3 does not refuse: "3 a reading above its limit, a register below zero, infinite or not a number"; "the limit of 100,000,000,000 Wh is
 -- on the product" (document 02, wish 4).
 abbrev pub accepted : ℕ → Reading → Bool
-accepted ratio r = isReadable r && leb (exactBy ratio r) (limit * unit)
+accepted ratio r = is_readable r && leb (exact_by ratio r) (limit * unit)
 
 -- "A meter gains a ratio from 1 to 10,000" (document 02, wish 4).
-abbrev pub ratioLimit : ℕ
-ratioLimit = 10000
+abbrev pub ratio_limit : ℕ
+ratio_limit = 10000
 
-abbrev pub ratioFits : ℕ → Bool
-ratioFits ratio = leb 1 ratio && leb ratio ratioLimit
+abbrev pub ratio_fits : ℕ → Bool
+ratio_fits ratio = leb 1 ratio && leb ratio ratio_limit
 
 -- A reading's whole watt-hours, "up .. the least whole number not below the exact value, down the greatest not above it", or the number of its
 -- refusal; "A ratio outside its range is refused 2" (document 02, wish 4).
-abbrev pub wattHours : Direction → ℕ → Reading → Outcome ℕ
-wattHours dir ratio r = refuseUnless 2 (ratioFits ratio) (refuseUnless 3 (accepted ratio r) (given (divided dir (exactBy ratio r) unit)))
+abbrev pub watt_hours : Direction → ℕ → Reading → Outcome ℕ
+watt_hours dir ratio r = refuse_unless 2 (ratio_fits ratio) (refuse_unless 3 (accepted ratio r) (given (divided dir (exact_by ratio r) unit)))
 
 -- What the code's answer means: the paper's number and value of each case.
-abbrev pub wattHoursMeaning : WattHours → Outcome ℕ
-wattHoursMeaning (Refused n) = refused n
-wattHoursMeaning (Rounded w) = given w
+abbrev pub watt_hours_meaning : WattHours → Outcome ℕ
+watt_hours_meaning (Refused n) = refused n
+watt_hours_meaning (Rounded w) = given w

@@ -5,28 +5,28 @@ ghost use Rattle.std.specs.Prelude.{◌≡◌, true, ◌*◌, ◌≤◌, ◌<◌
 ghost use Rattle.std.specs.Float.{binary32};
 ghost use Rattle.std.specs.Float.Ieee.{of_bits};
 ghost use Rattle.metering.specs.Reading.{
-  exactRegister,
-  isReadableRegister,
-  ratioFits,
-  wattHours,
-  wattHoursMeaning,
+  exact_register,
+  is_readable_register,
+  ratio_fits,
+  watt_hours,
+  watt_hours_meaning,
 };
 ghost use Rattle.metering.specs.Energy.{
   first_of,
   last_of,
   adding,
   taking,
-  hasRatio,
-  runsBack,
-  allMeters,
-  judgedMeters,
-  settledEnergy,
-  metersRefusal,
-  energyRefusal,
-  noMeter,
-  metersLimit,
+  has_ratio,
+  runs_back,
+  all_meters,
+  judged_meters,
+  settled_energy,
+  meters_refusal,
+  energy_refusal,
+  no_meter,
+  meters_limit,
 };
-ghost use Rattle.metering.specs.Steps.{magnitude, roundedBothWays, isRead, meterRead, metersRead};
+ghost use Rattle.metering.specs.Steps.{magnitude, rounded_both_ways, is_read, meter_read, meters_read};
 
 use rounding::Direction;
 
@@ -108,7 +108,7 @@ pub enum EnergyJudged {
 impl MetersJudged {
     // The number of the refusal, 0 where the meters were read.
     pub fn refusal(self) -> u8
-        ensures { result ≡ metersRefusal self }
+        ensures { result ≡ meters_refusal self }
     {
         match self {
             MetersJudged::Refused(number) => number,
@@ -120,7 +120,7 @@ impl MetersJudged {
 impl EnergyJudged {
     // The number of the refusal, 0 where the energy was accepted.
     pub fn refusal(self) -> u8
-        ensures { result ≡ energyRefusal self }
+        ensures { result ≡ energy_refusal self }
     {
         match self {
             EnergyJudged::Refused(number) => number,
@@ -152,7 +152,7 @@ struct Bounds {
 // all of it, as the longer ones of small fields would.
 fn round_both_ways(field: u32, digits: u32, ratio: u16) -> Bounds
     requires { (field ≤ 153) × (digits < 8388608) }
-    ensures { result ≡ roundedBothWays (magnitude field digits * ratio) }
+    ensures { result ≡ rounded_both_ways (magnitude field digits * ratio) }
 {
     let significand = if field == 0 {
         digits
@@ -176,7 +176,7 @@ fn round_both_ways(field: u32, digits: u32, ratio: u16) -> Bounds
 
 // Whether a ratio is in its range.
 fn ratio_fits(ratio: u16) -> bool
-    ensures { result ≡ ratioFits ratio }
+    ensures { result ≡ ratio_fits ratio }
 {
     if ratio == 0 {
         return false;
@@ -188,8 +188,8 @@ fn ratio_fits(ratio: u16) -> bool
 // those of registers below zero and of no number. The limit is on the exact product, which is above it exactly
 // where the product rounded up is.
 fn register_watt_hours(bits: u32, ratio: u16, direction: Direction) -> WattHours
-    requires { ratioFits ratio ≡ true }
-    ensures { wattHoursMeaning result ≡ wattHours direction ratio (Reading.Single (of_bits binary32 bits)) }
+    requires { ratio_fits ratio ≡ true }
+    ensures { watt_hours_meaning result ≡ watt_hours direction ratio (Reading.Single (of_bits binary32 bits)) }
 {
     if bits > 0x8000_0000 {
         return WattHours::Refused(3);
@@ -211,7 +211,7 @@ fn register_watt_hours(bits: u32, ratio: u16, direction: Direction) -> WattHours
 
 // The whole watt-hours of a reading times its ratio, in the direction, or the number of its refusal.
 pub fn watt_hours(reading: Reading, ratio: u16, direction: Direction) -> WattHours
-    ensures { wattHoursMeaning result ≡ wattHours direction ratio reading }
+    ensures { watt_hours_meaning result ≡ watt_hours direction ratio reading }
 {
     if ratio_fits(ratio) == false {
         return WattHours::Refused(2);
@@ -263,8 +263,8 @@ impl Registers {
     // without the sign, which only -0 has, are in the order of the values. Other registers are refused
     // before, so they are ruled out here: below zero the order is the opposite, and a NaN has none.
     fn run_back(self) -> bool
-        requires { (isReadableRegister self.first ≡ true) × (isReadableRegister self.last ≡ true) }
-        ensures { result ≡ ltb (exactRegister self.last) (exactRegister self.first) }
+        requires { (is_readable_register self.first ≡ true) × (is_readable_register self.last ≡ true) }
+        ensures { result ≡ ltb (exact_register self.last) (exact_register self.first) }
     {
         let first = self.first;
         let last = self.last;
@@ -275,7 +275,7 @@ impl Registers {
 impl Meter {
     // The empty meter: what a place for a meter holds where there is none.
     pub fn empty() -> Meter
-        ensures { result ≡ noMeter }
+        ensures { result ≡ no_meter }
     {
         Meter {
             ratio: 1,
@@ -311,8 +311,8 @@ impl Meter {
     // Whether the last reading is below the first, by exact value: both times one ratio, which is not 0, are
     // in the order of the readings. Numbers 2 and 3 come before number 4, so the meter is one that is read.
     fn runs_back(self) -> bool
-        requires { isRead self ≡ true }
-        ensures { result ≡ runsBack self }
+        requires { is_read self ≡ true }
+        ensures { result ≡ runs_back self }
     {
         let interval = self.interval;
         match interval {
@@ -333,7 +333,7 @@ enum MeterRead {
 // One meter: what adds is rounded in the source's direction, what is taken in the opposite one, both times the
 // meter's ratio.
 fn read_meter(meter: Meter, direction: Direction) -> MeterRead
-    ensures { result ≡ meterRead direction meter }
+    ensures { result ≡ meter_read direction meter }
 {
     let ratio = meter.ratio;
     let WattHours::Rounded(takes) = watt_hours(meter.taking(), ratio, direction.reversed()) else {
@@ -348,8 +348,8 @@ fn read_meter(meter: Meter, direction: Direction) -> MeterRead
 // The first `count` meters together. A meter that runs back does not end the loop: number 3 is tested
 // over all meters before number 4.
 fn read_meters(meters: [Meter; Meter::PLACES], count: usize, direction: Direction) -> MeterRead
-    requires { count ≤ metersLimit }
-    ensures { result ≡ metersRead direction (take count meters) }
+    requires { count ≤ meters_limit }
+    ensures { result ≡ meters_read direction (take count meters) }
 {
     let mut adds: u64 = 0;
     let mut takes: u64 = 0;
@@ -370,8 +370,8 @@ fn read_meters(meters: [Meter; Meter::PLACES], count: usize, direction: Directio
 
 // Whether the ratios of the first `count` meters are in their range.
 fn ratios_fit(meters: [Meter; Meter::PLACES], count: usize) -> bool
-    requires { count ≤ metersLimit }
-    ensures { result ≡ allMeters hasRatio (take count meters) }
+    requires { count ≤ meters_limit }
+    ensures { result ≡ all_meters has_ratio (take count meters) }
 {
     let mut i = 0;
     while i < count {
@@ -387,7 +387,7 @@ fn ratios_fit(meters: [Meter; Meter::PLACES], count: usize) -> bool
 // The rounded readings of a source's meters, the first `count` of the four, or the first refusal of 2, 3
 // and 4 that is due (document 01, "Source entry"). Number 2 is tested over all meters before number 3 of any.
 pub fn judge_meters(meters: [Meter; Meter::PLACES], count: u8, direction: Direction) -> MetersJudged
-    ensures { result ≡ judgedMeters direction count meters }
+    ensures { result ≡ judged_meters direction count meters }
 {
     if count == 0 {
         return MetersJudged::Refused(2);
@@ -409,7 +409,7 @@ pub fn judge_meters(meters: [Meter; Meter::PLACES], count: u8, direction: Direct
 
 // A source's energy from its rounded readings, or refusal 6.
 pub fn settle_energy(adds: u64, takes: u64) -> EnergyJudged
-    ensures { result ≡ settledEnergy adds takes }
+    ensures { result ≡ settled_energy adds takes }
 {
     if adds < takes {
         return EnergyJudged::Refused(6);

@@ -2,10 +2,10 @@
 // holds one ledger and one line, which its answer replaces, and nothing more, so that it can run where memory is
 // short. Any number of lines may be typed.
 ghost use Rattle.std.specs.Prelude.{◌≡◌, ◌≤◌, ◌<◌, length, take};
-ghost use Rattle.forms.specs.Form.{lineLimit};
-ghost use Rattle.forms.specs.Calls.{lineCall};
-ghost use Rattle.answers.specs.Answers.{replyMeaning, replyText};
-ghost use Rattle.answers.specs.Input.{lineStep, lineReply};
+ghost use Rattle.forms.specs.Form.{line_limit};
+ghost use Rattle.forms.specs.Calls.{line_call};
+ghost use Rattle.answers.specs.Answers.{reply_meaning, reply_text};
+ghost use Rattle.answers.specs.Input.{line_step, line_reply};
 ghost use Rattle.answers.specs.Typed.{LeftByLines};
 ghost use Rattle.panel.specs.Steps.{Kept};
 
@@ -58,14 +58,14 @@ fn next_line(buffer: &mut [u8]) -> LineRead
 // the prover alone and does nothing; the compiler leaves it out, and with it the copies of its arguments.
 fn turn_meets(line: &[u8], before: Ledger, after: Ledger, reply: Reply)
     requires left_by_lines { LeftByLines before }
-    requires after_value { after ≡ lineStep before (lineCall line.now) }
-    requires reply_value { replyMeaning reply ≡ lineReply before (lineCall line.now) }
+    requires after_value { after ≡ line_step before (line_call line.now) }
+    requires reply_value { reply_meaning reply ≡ line_reply before (line_call line.now) }
 {}
 
 // Writes the first bytes of a buffer, which are the text of a reply. The reply is for the prover alone.
 fn print(buffer: &[u8], count: usize, reply: Reply)
     requires count_in_bounds { count ≤ length buffer.now }
-    requires buffer_value { take count buffer.now ≡ replyText (replyMeaning reply) }
+    requires buffer_value { take count buffer.now ≡ reply_text (reply_meaning reply) }
 {
     let mut at: usize = 0;
     while at < count {
@@ -80,7 +80,7 @@ fn print(buffer: &[u8], count: usize, reply: Reply)
 
 // Answers lines until the input ends.
 fn answer_lines(buffer: &mut [u8])
-    requires { lineLimit < length buffer.old }
+    requires { line_limit < length buffer.old }
 {
     let mut ledger = Ledger::new();
     let mut left = TURNS;

@@ -8,7 +8,7 @@ use native.Mathlib.Omega.{arith}
 use lib.ListN.{length, take, drop, get_or, drop_of_length-le}
 use lib.Seq.{drop-cons, get_or-take, length-take-le}
 use Rattle.rounding.specs.Divided.{sum}
-use Rattle.fuel.specs.Fuel.{allLines}
+use Rattle.fuel.specs.Fuel.{all_lines}
 use Rattle.fuel.specs.declared.FuelLine.{FuelLine}
 
 -- Line i and those after it, where i is one of the first n.
@@ -27,13 +27,13 @@ lines_none ls n i h k =
 
 module _ (test : FuelLine → Bool) (ls : List FuelLine) (n i : ℕ) where
   pub next-line : (d : FuelLine) (t : Bool) → i < n → n ≤ length ls → test (get_or ls i d) ≡ t
-      → allLines test (drop i (take n ls)) ≡ (t && allLines test (drop (i + 1) (take n ls)))
-  unfolding allLines
+      → all_lines test (drop i (take n ls)) ≡ (t && all_lines test (drop (i + 1) (take n ls)))
+  unfolding all_lines
   next-line d t h k e = rw (lines_next ls n i d h k, e)
 
-  pub no_line : n ≤ i → n ≤ length ls → allLines test (drop i (take n ls)) ≡ true
-  unfolding allLines
-  no_line h k = rw (lines_none ls n i h k)
+  pub no_line_lem : n ≤ i → n ≤ length ls → all_lines test (drop i (take n ls)) ≡ true
+  unfolding all_lines
+  no_line_lem h k = rw (lines_none ls n i h k)
 
 -- ---- a sum
 

@@ -1,7 +1,7 @@
 -- The records of a ledger: what stands in each, and what it is where nothing stands (document 01, "The ledger and its exact value").
 use Rattle.std.specs.Prelude.{ℕ, true, false, cond, List, get_or, replicate}
 use Rattle.std.proofs.Math.Option.{Option, none, some}
-use Rattle.fuel.specs.Fuel.{noLine}
+use Rattle.fuel.specs.Fuel.{no_line}
 use Rattle.emissions.specs.declared.EnteredGrid.{EnteredGrid}
 use Rattle.emissions.specs.declared.Grid.TheVariants.{Absent, Entered}
 use Rattle.emissions.specs.declared.Side.TheVariants.{Project}
@@ -14,41 +14,41 @@ use Rattle.records.specs.declared.PlantRecord.{PlantRecord}
 use Rattle.records.specs.declared.SourceRecord.{SourceRecord}
 
 -- The empty records.
-unfoldable pub noGrid : GridRecord
-noGrid = record { grid = Absent }
+unfoldable pub no_grid : GridRecord
+no_grid = record { grid = Absent }
 
-unfoldable pub noPlant : PlantRecord
-noPlant = record { stands = false; site = 0; count = 0; generation = 0; heat = 0; lines = replicate 4 noLine }
+unfoldable pub no_plant : PlantRecord
+no_plant = record { stands = false; site = 0; count = 0; generation = 0; heat = 0; lines = replicate 4 no_line }
 
-unfoldable pub noSource : SourceRecord
-noSource = record { stands = false; side = Project; supply = Combined; loss = Nothing; energy = 0 }
+unfoldable pub no_source : SourceRecord
+no_source = record { stands = false; side = Project; supply = Combined; loss = Nothing; energy = 0 }
 
 -- The record of what stands.
-abbrev pub gridRecord : EnteredGrid → GridRecord
-gridRecord g = record { grid = Entered g }
+abbrev pub grid_record : EnteredGrid → GridRecord
+grid_record g = record { grid = Entered g }
 
-abbrev pub plantRecord : Plant → PlantRecord
-plantRecord p = record { stands = true; site = p.site; count = p.count; generation = p.generation; heat = p.heat; lines = p.lines }
+abbrev pub plant_record : Plant → PlantRecord
+plant_record p = record { stands = true; site = p.site; count = p.count; generation = p.generation; heat = p.heat; lines = p.lines }
 
-abbrev pub sourceRecord : Source → SourceRecord
-sourceRecord s = record { stands = true; side = s.side; supply = s.supply; loss = s.loss; energy = s.energy }
+abbrev pub source_record : Source → SourceRecord
+source_record s = record { stands = true; side = s.side; supply = s.supply; loss = s.loss; energy = s.energy }
 
 -- What a record holds, and what it shows: nothing where nothing stands.
-abbrev pub heldPlant : PlantRecord → Plant
-heldPlant r = record { site = r.site; count = r.count; generation = r.generation; heat = r.heat; lines = r.lines }
+abbrev pub held_plant : PlantRecord → Plant
+held_plant r = record { site = r.site; count = r.count; generation = r.generation; heat = r.heat; lines = r.lines }
 
-abbrev pub heldSource : SourceRecord → Source
-heldSource r = record { side = r.side; supply = r.supply; loss = r.loss; energy = r.energy }
+abbrev pub held_source : SourceRecord → Source
+held_source r = record { side = r.side; supply = r.supply; loss = r.loss; energy = r.energy }
 
-abbrev pub plantIn : PlantRecord → Option Plant
-plantIn r = cond r.stands (some (heldPlant r)) none
+abbrev pub plant_in : PlantRecord → Option Plant
+plant_in r = cond r.stands (some (held_plant r)) none
 
-abbrev pub sourceIn : SourceRecord → Option Source
-sourceIn r = cond r.stands (some (heldSource r)) none
+abbrev pub source_in : SourceRecord → Option Source
+source_in r = cond r.stands (some (held_source r)) none
 
 -- What the records under the numbers show.
-abbrev pub plantPlace : List PlantRecord → ℕ → Option Plant
-plantPlace rs n = plantIn (get_or rs n noPlant)
+abbrev pub plant_place : List PlantRecord → ℕ → Option Plant
+plant_place rs n = plant_in (get_or rs n no_plant)
 
-abbrev pub sourcePlace : List SourceRecord → ℕ → Option Source
-sourcePlace rs n = sourceIn (get_or rs n noSource)
+abbrev pub source_place : List SourceRecord → ℕ → Option Source
+source_place rs n = source_in (get_or rs n no_source)

@@ -2,8 +2,8 @@
 use Rattle.rounding.specs.Outcome.{Outcome, refused, given}
 use Rattle.records.specs.declared.Source.{Source}
 use Rattle.records.specs.declared.SourceJudged.{SourceJudged}
-use Rattle.records.specs.declared.SourceJudged.TheVariants as sourceJudged
+use Rattle.records.specs.declared.SourceJudged.TheVariants as source_judged
 
-abbrev pub sourceMeaning : SourceJudged → Outcome Source
-sourceMeaning (sourceJudged.Refused n) = refused n
-sourceMeaning (sourceJudged.Accepted s) = given s
+abbrev pub source_meaning : SourceJudged → Outcome Source
+source_meaning (source_judged.Refused n) = refused n
+source_meaning (source_judged.Accepted s) = given s

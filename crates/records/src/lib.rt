@@ -2,11 +2,11 @@
 // is judged here and works on the one record that it changes; the owner of the ledger stores what is kept
 // (document 01, "How each operation declines"; document 02, wish 5).
 ghost use Rattle.std.specs.Prelude.{◌≡◌, ◌≤◌, ◌&&◌, leb, take};
-ghost use Rattle.emissions.specs.Grid.{gridJudged};
-ghost use Rattle.records.specs.Heat.{heatJudged};
-ghost use Rattle.records.specs.Judging.{lines_of, lastPlant, lastSource, linesLimit, generationLimit, answer_of, allWithinLimits, plantJudged, supplyWithinLimits, lossWithinLimits, isNothing, lossMatches, sourceJudged, dropJudged, whereGiven};
-ghost use Rattle.records.specs.Records.{noGrid, noPlant, noSource, gridRecord, plantRecord, sourceRecord, heldPlant, heldSource};
-ghost use Rattle.records.specs.Steps.{sourceMeaning};
+ghost use Rattle.emissions.specs.Grid.{grid_judged};
+ghost use Rattle.records.specs.Heat.{heat_judged};
+ghost use Rattle.records.specs.Judging.{lines_of, last_plant, last_source, lines_limit, generation_limit, answer_of, all_within_limits, plant_judged, supply_within_limits, loss_within_limits, is_nothing, loss_matches, source_judged, drop_judged, where_given};
+ghost use Rattle.records.specs.Records.{no_grid, no_plant, no_source, grid_record, plant_record, source_record, held_plant, held_source};
+ghost use Rattle.records.specs.Steps.{source_meaning};
 
 use emissions::{Grid, GridEntry, GridJudged, Loss, Side, Supply};
 use fuel::{FuelLine, LineEnergy};
@@ -135,7 +135,7 @@ impl Plant {
 
     // Whether the number of fuel lines and the generation are within their limits.
     pub fn figures_fit(self) -> bool
-        ensures { result ≡ (leb self.count linesLimit && leb self.generation generationLimit) }
+        ensures { result ≡ (leb self.count lines_limit && leb self.generation generation_limit) }
     {
         if self.count > Plant::LINES_LIMIT {
             return false;
@@ -146,7 +146,7 @@ impl Plant {
     // The heat's refusals 16 and 17, of lines within their limits. Lines out of them are refused with 2 before, and
     // count here as lines that state no energy, so that no sum wraps.
     pub fn heat_judged(self) -> HeatJudged
-        ensures { result ≡ heatJudged self.heat self.count (lines_of self) }
+        ensures { result ≡ heat_judged self.heat self.count (lines_of self) }
     {
         if self.heat == 0 {
             return HeatJudged::Nothing;
@@ -174,7 +174,7 @@ impl Plant {
 
     // The entry's refusals 1, 2, 16 and 17 (document 01, "Plant entry"; document 02, wish 5).
     pub fn judged(self, number: u8) -> Answer
-        ensures { result ≡ answer_of (plantJudged number self) }
+        ensures { result ≡ answer_of (plant_judged number self) }
     {
         if number > Plant::LAST {
             return Answer::Refused(1);
@@ -201,8 +201,8 @@ impl Plant {
 
 // Whether the first `count` fuel lines are within their limits.
 fn are_within_limits(lines: [FuelLine; Plant::LINE_PLACES], count: usize) -> bool
-    requires { count ≤ linesLimit }
-    ensures { result ≡ allWithinLimits (take count lines) }
+    requires { count ≤ lines_limit }
+    ensures { result ≡ all_within_limits (take count lines) }
 {
     let mut i = 0;
     while i < count {
@@ -218,7 +218,7 @@ fn are_within_limits(lines: [FuelLine; Plant::LINE_PLACES], count: usize) -> boo
 
 // Whether the site that a supply names, if it names one, is in range.
 fn supply_is_within_limits(supply: Supply) -> bool
-    ensures { result ≡ supplyWithinLimits supply }
+    ensures { result ≡ supply_within_limits supply }
 {
     match supply {
         Supply::Combined => true,
@@ -231,7 +231,7 @@ fn supply_is_within_limits(supply: Supply) -> bool
 
 // Whether a measured loss is within its limit.
 pub fn loss_is_within_limits(loss: Loss) -> bool
-    ensures { result ≡ lossWithinLimits loss }
+    ensures { result ≡ loss_within_limits loss }
 {
     match loss {
         Loss::Nothing => true,
@@ -242,7 +242,7 @@ pub fn loss_is_within_limits(loss: Loss) -> bool
 }
 
 pub fn is_nothing(loss: Loss) -> bool
-    ensures { result ≡ isNothing loss }
+    ensures { result ≡ is_nothing loss }
 {
     match loss {
         Loss::Nothing => true,
@@ -254,7 +254,7 @@ pub fn is_nothing(loss: Loss) -> bool
 
 // Whether the loss goes with the supply: captive supplies carry none, the others carry one.
 fn is_matched(supply: Supply, loss: Loss) -> bool
-    ensures { result ≡ lossMatches supply loss }
+    ensures { result ≡ loss_matches supply loss }
 {
     let none = is_nothing(loss);
     match supply {
@@ -269,7 +269,7 @@ fn is_matched(supply: Supply, loss: Loss) -> bool
 impl SourceEntry {
     // The entry's refusals 1 to 6 in their order, or what is kept (document 01, "Source entry").
     fn judged(self, number: u8) -> SourceJudged
-        ensures { sourceMeaning result ≡ sourceJudged number self }
+        ensures { source_meaning result ≡ source_judged number self }
     {
         let side = self.side;
         let supply = self.supply;
@@ -316,7 +316,7 @@ impl Source {
 impl SourceJudged {
     // The answer of an entry that is judged so.
     fn answer(self) -> Answer
-        ensures { result ≡ answer_of (sourceMeaning self) }
+        ensures { result ≡ answer_of (source_meaning self) }
     {
         match self {
             SourceJudged::Refused(number) => Answer::Refused(number),
@@ -327,7 +327,7 @@ impl SourceJudged {
 
 // How a drop is judged, where numbers go up to the last one (document 01, "Drop").
 fn judged_drop(last: u8, stands: bool, number: u8) -> Answer
-    ensures { result ≡ answer_of (dropJudged last stands number) }
+    ensures { result ≡ answer_of (drop_judged last stands number) }
 {
     if number > last {
         return Answer::Refused(1);
@@ -340,15 +340,15 @@ fn judged_drop(last: u8, stands: bool, number: u8) -> Answer
 
 impl GridRecord {
     pub fn empty() -> GridRecord
-        ensures { result ≡ noGrid }
+        ensures { result ≡ no_grid }
     {
         GridRecord { grid: Grid::Absent }
     }
 
     // What an entry leaves, in place of an older one, and its answer (document 01, "Grid entry").
     pub fn entered(self, entry: GridEntry) -> GridKept
-        ensures kept { result.kept ≡ whereGiven (gridJudged entry) gridRecord self }
-        ensures answer { result.answer ≡ answer_of (gridJudged entry) }
+        ensures kept { result.kept ≡ where_given (grid_judged entry) grid_record self }
+        ensures answer { result.answer ≡ answer_of (grid_judged entry) }
     {
         let judged = entry.judged();
         let GridJudged::Accepted(grid) = judged else {
@@ -368,7 +368,7 @@ impl GridRecord {
 
 impl PlantRecord {
     pub fn empty() -> PlantRecord
-        ensures { result ≡ noPlant }
+        ensures { result ≡ no_plant }
     {
         let line = FuelLine::empty();
         PlantRecord {
@@ -383,7 +383,7 @@ impl PlantRecord {
 
     // The record of a plant that stands.
     pub fn of(plant: Plant) -> PlantRecord
-        ensures { result ≡ plantRecord plant }
+        ensures { result ≡ plant_record plant }
     {
         let lines = plant.lines;
         PlantRecord {
@@ -398,7 +398,7 @@ impl PlantRecord {
 
     // The plant in the record.
     pub fn plant(self) -> Plant
-        ensures { result ≡ heldPlant self }
+        ensures { result ≡ held_plant self }
     {
         let lines = self.lines;
         Plant {
@@ -413,8 +413,8 @@ impl PlantRecord {
     // What an entry under the number leaves in the record there, in place of an older plant, and its answer
     // (document 01, "Plant entry").
     pub fn entered(self, number: u8, plant: Plant) -> PlantKept
-        ensures kept { result.kept ≡ whereGiven (plantJudged number plant) plantRecord self }
-        ensures answer { result.answer ≡ answer_of (plantJudged number plant) }
+        ensures kept { result.kept ≡ where_given (plant_judged number plant) plant_record self }
+        ensures answer { result.answer ≡ answer_of (plant_judged number plant) }
     {
         let answer = plant.judged(number);
         let Answer::Accepted = answer else {
@@ -428,8 +428,8 @@ impl PlantRecord {
 
     // What a drop under the number leaves in the record there, and its answer (document 01, "Drop").
     pub fn dropped(self, number: u8) -> PlantKept
-        ensures kept { result.kept ≡ whereGiven (dropJudged lastPlant self.stands number) (λ a. noPlant) self }
-        ensures answer { result.answer ≡ answer_of (dropJudged lastPlant self.stands number) }
+        ensures kept { result.kept ≡ where_given (drop_judged last_plant self.stands number) (λ a. no_plant) self }
+        ensures answer { result.answer ≡ answer_of (drop_judged last_plant self.stands number) }
     {
         let answer = judged_drop(Plant::LAST, self.stands, number);
         let Answer::Accepted = answer else {
@@ -444,7 +444,7 @@ impl PlantRecord {
 
 impl SourceRecord {
     pub fn empty() -> SourceRecord
-        ensures { result ≡ noSource }
+        ensures { result ≡ no_source }
     {
         SourceRecord {
             stands: false,
@@ -457,7 +457,7 @@ impl SourceRecord {
 
     // The record of a source that stands.
     pub fn of(source: Source) -> SourceRecord
-        ensures { result ≡ sourceRecord source }
+        ensures { result ≡ source_record source }
     {
         let side = source.side;
         let supply = source.supply;
@@ -473,7 +473,7 @@ impl SourceRecord {
 
     // The source in the record.
     pub fn source(self) -> Source
-        ensures { result ≡ heldSource self }
+        ensures { result ≡ held_source self }
     {
         let side = self.side;
         let supply = self.supply;
@@ -489,8 +489,8 @@ impl SourceRecord {
     // What an entry under the number leaves in the record there, in place of an older source, and its answer
     // (document 01, "Source entry").
     pub fn entered(self, number: u8, entry: SourceEntry) -> SourceKept
-        ensures kept { result.kept ≡ whereGiven (sourceJudged number entry) sourceRecord self }
-        ensures answer { result.answer ≡ answer_of (sourceJudged number entry) }
+        ensures kept { result.kept ≡ where_given (source_judged number entry) source_record self }
+        ensures answer { result.answer ≡ answer_of (source_judged number entry) }
     {
         let judged = entry.judged(number);
         let SourceJudged::Accepted(source) = judged else {
@@ -507,8 +507,8 @@ impl SourceRecord {
 
     // What a drop under the number leaves in the record there, and its answer (document 01, "Drop").
     pub fn dropped(self, number: u8) -> SourceKept
-        ensures kept { result.kept ≡ whereGiven (dropJudged lastSource self.stands number) (λ a. noSource) self }
-        ensures answer { result.answer ≡ answer_of (dropJudged lastSource self.stands number) }
+        ensures kept { result.kept ≡ where_given (drop_judged last_source self.stands number) (λ a. no_source) self }
+        ensures answer { result.answer ≡ answer_of (drop_judged last_source self.stands number) }
     {
         let answer = judged_drop(Source::LAST, self.stands, number);
         let Answer::Accepted = answer else {

@@ -15,30 +15,30 @@ use Rattle.rounding.specs.declared.Direction.{Direction}
 use Rattle.rounding.specs.declared.Direction.TheVariants.{Up, Down}
 use Rattle.rounding.proofs.Divided.{rounds, divided-at-most}
 use Rattle.rounding.proofs.Ratio.{Within, all_of, within-widen, sum-within-equal, sum_over, sum-unsigned, conservative-within}
-use Rattle.fuel.specs.Fuel.{exactMilligrams, roundedMilligrams}
+use Rattle.fuel.specs.Fuel.{exact_milligrams, rounded_milligrams}
 use Rattle.fuel.specs.declared.FuelLine.{FuelLine}
 use Rattle.fuel.proofs.Fuel.{line-over, line-unsigned, line-conservative}
-use Rattle.records.specs.Heat.{hasHeat, fuelEnergy}
-use Rattle.report.specs.Heat.{linesMilligrams, exactLines, allocated, exactAllocated, electricityMilligrams, exactElectricity, heatedEnergy}
+use Rattle.records.specs.Heat.{has_heat, fuel_energy}
+use Rattle.report.specs.Heat.{lines_milligrams, exact_lines, allocated, exact_allocated, electricity_milligrams, exact_electricity, heated_energy}
 
 -- ---- the lines
 
 -- Each of at most four lines is off by at most 1 mg.
-lines-within : (dir : Direction) (ls : List FuelLine) → length ls ≤ 4 → Within dir (linesMilligrams dir ls) (exactLines ls) (whole 4)
-unfolding linesMilligrams exactLines
-lines-within dir ls h = sum-within-equal dir (roundedMilligrams dir) exactMilligrams 1 4 ls h (all_of line-within ls)
+lines-within : (dir : Direction) (ls : List FuelLine) → length ls ≤ 4 → Within dir (lines_milligrams dir ls) (exact_lines ls) (whole 4)
+unfolding lines_milligrams exact_lines
+lines-within dir ls h = sum-within-equal dir (rounded_milligrams dir) exact_milligrams 1 4 ls h (all_of line-within ls)
   where
-    line-within : (l : FuelLine) → Within dir (roundedMilligrams dir l) (exactMilligrams l) (whole 1)
-    line-within l = conservative-within dir (roundedMilligrams dir l) (exactMilligrams l) (whole 1) (line-conservative dir l)
+    line-within : (l : FuelLine) → Within dir (rounded_milligrams dir l) (exact_milligrams l) (whole 1)
+    line-within l = conservative-within dir (rounded_milligrams dir l) (exact_milligrams l) (whole 1) (line-conservative dir l)
 
 -- Their exact milligrams have a denominator above 0 and nothing subtracted.
-lines-over : (ls : List FuelLine) → 0 < (exactLines ls).over
-unfolding exactLines
-lines-over ls = sum_over exactMilligrams ls (all_of line-over ls)
+lines-over : (ls : List FuelLine) → 0 < (exact_lines ls).over
+unfolding exact_lines
+lines-over ls = sum_over exact_milligrams ls (all_of line-over ls)
 
-lines-unsigned : (ls : List FuelLine) → (exactLines ls).minus ≡ 0
-unfolding exactLines
-lines-unsigned ls = sum-unsigned exactMilligrams ls (all_of line-unsigned ls)
+lines-unsigned : (ls : List FuelLine) → (exact_lines ls).minus ≡ 0
+unfolding exact_lines
+lines-unsigned ls = sum-unsigned exact_milligrams ls (all_of line-unsigned ls)
 
 -- ---- the allocation, by numbers alone: D = J − H, and the exact milligrams p ÷ o of the lines stand at most n above R
 
@@ -60,8 +60,8 @@ module _ (J D R A Z p o n : ℕ) (D≤ : D ≤ J) where
 
 -- A plant with heat: at most its lines' distance, 1 mg and J ÷ 1,000 mg below the exact milligrams.
 allocated-within : (J H R n : ℕ) (x : Ratio) → 0 < H → H ≤ J → x.minus ≡ 0 → Within Down R x (whole n)
-    → Within Down (allocated J H R) (exactAllocated J H x) ((1000 * (n + 1) + J) ÷ 1000)
-unfolding allocated exactAllocated
+    → Within Down (allocated J H R) (exact_allocated J H x) ((1000 * (n + 1) + J) ÷ 1000)
+unfolding allocated exact_allocated
 allocated-within J H R n x pos le z w =
     let A = divided Down (R * 1000) J in
     let Z = divided Down ((J - H) * A) 1000 in
@@ -92,41 +92,41 @@ allocated-most J H R pos = divided-at-most Down ((J - H) * divided Down (R * 100
 -- ---- a plant's milligrams
 
 -- The energy that adds to their distance: J of a plant with heat, for baseline.
-abbrev pub heatedBy : Direction → ℕ → List FuelLine → ℕ
-heatedBy Up H ls = 0
-heatedBy Down H ls = heatedEnergy H ls
+abbrev pub heated_by : Direction → ℕ → List FuelLine → ℕ
+heated_by Up H ls = 0
+heated_by Down H ls = heated_energy H ls
 
-lines-near : (dir : Direction) (ls : List FuelLine) → length ls ≤ 4 → Within dir (linesMilligrams dir ls) (exactLines ls) (5000 ÷ 1000)
-lines-near dir ls h = within-widen dir (linesMilligrams dir ls) (exactLines ls) (whole 4) (5000 ÷ 1000) (omega arith) (omega arith) (lines-within dir ls h)
+lines-near : (dir : Direction) (ls : List FuelLine) → length ls ≤ 4 → Within dir (lines_milligrams dir ls) (exact_lines ls) (5000 ÷ 1000)
+lines-near dir ls h = within-widen dir (lines_milligrams dir ls) (exact_lines ls) (whole 4) (5000 ÷ 1000) (omega arith) (omega arith) (lines-within dir ls h)
 
-module _ (H : ℕ) (ls : List FuelLine) (short : length ls ≤ 4) (le : H ≤ fuelEnergy ls) where
+module _ (H : ℕ) (ls : List FuelLine) (short : length ls ≤ 4) (le : H ≤ fuel_energy ls) where
   pub electricity-within : (dir : Direction)
-      → Within dir (electricityMilligrams dir H ls) (exactElectricity dir H ls) ((5000 + heatedBy dir H ls) ÷ 1000)
-  unfolding electricityMilligrams exactElectricity heatedEnergy
+      → Within dir (electricity_milligrams dir H ls) (exact_electricity dir H ls) ((5000 + heated_by dir H ls) ÷ 1000)
+  unfolding electricity_milligrams exact_electricity heated_energy
   electricity-within Up = lines-near Up ls short
-  electricity-within Down = go (hasHeat H) refl
+  electricity-within Down = go (has_heat H) refl
     where
-      go : (t : Bool) → hasHeat H ≡ t
-          → Within Down (cond t (allocated (fuelEnergy ls) H (linesMilligrams Down ls)) (linesMilligrams Down ls))
-          (cond t (exactAllocated (fuelEnergy ls) H (exactLines ls)) (exactLines ls)) ((5000 + cond t (fuelEnergy ls) 0) ÷ 1000)
+      go : (t : Bool) → has_heat H ≡ t
+          → Within Down (cond t (allocated (fuel_energy ls) H (lines_milligrams Down ls)) (lines_milligrams Down ls))
+          (cond t (exact_allocated (fuel_energy ls) H (exact_lines ls)) (exact_lines ls)) ((5000 + cond t (fuel_energy ls) 0) ÷ 1000)
       go true e =
-          allocated-within (fuelEnergy ls) H (linesMilligrams Down ls) 4 (exactLines ls) (ltb-true 0 H e) le (lines-unsigned ls) (lines-within Down ls short)
+          allocated-within (fuel_energy ls) H (lines_milligrams Down ls) 4 (exact_lines ls) (ltb-true 0 H e) le (lines-unsigned ls) (lines-within Down ls short)
       go false e = lines-near Down ls short
 
-  pub electricity-over : (dir : Direction) → 0 < (exactElectricity dir H ls).over
-  unfolding exactElectricity exactAllocated
+  pub electricity-over : (dir : Direction) → 0 < (exact_electricity dir H ls).over
+  unfolding exact_electricity exact_allocated
   electricity-over Up = lines-over ls
-  electricity-over Down = go (hasHeat H) refl
+  electricity-over Down = go (has_heat H) refl
     where
-      go : (t : Bool) → hasHeat H ≡ t → 0 < (cond t (exactAllocated (fuelEnergy ls) H (exactLines ls)) (exactLines ls)).over
+      go : (t : Bool) → has_heat H ≡ t → 0 < (cond t (exact_allocated (fuel_energy ls) H (exact_lines ls)) (exact_lines ls)).over
       go true e = mul-pos (lines-over ls) (omega (arith, ltb-true 0 H e))
       go false e = lines-over ls
 
-  pub electricity-unsigned : (dir : Direction) → (exactElectricity dir H ls).minus ≡ 0
-  unfolding exactElectricity exactAllocated
+  pub electricity-unsigned : (dir : Direction) → (exact_electricity dir H ls).minus ≡ 0
+  unfolding exact_electricity exact_allocated
   electricity-unsigned Up = lines-unsigned ls
-  electricity-unsigned Down = go (hasHeat H)
+  electricity-unsigned Down = go (has_heat H)
     where
-      go : (t : Bool) → (cond t (exactAllocated (fuelEnergy ls) H (exactLines ls)) (exactLines ls)).minus ≡ 0
+      go : (t : Bool) → (cond t (exact_allocated (fuel_energy ls) H (exact_lines ls)) (exact_lines ls)).minus ≡ 0
       go true = rw (lines-unsigned ls) (omega arith)
       go false = lines-unsigned ls

@@ -10,7 +10,7 @@ use native.Mathlib.Omega.{arith}
 use native.Mathlib.Nat.{eq-or-lt_of_le}
 use lib.ListN.{length, get_or}
 use Rattle.rounding.specs.Lists.{All}
-use Rattle.report.specs.Report.{Numbered, prependStanding, standing, selected}
+use Rattle.report.specs.Report.{Numbered, prepend_standing, standing, selected}
 
 -- An element of a list does not depend on what is read past its end.
 pub get_d_any : {A : Type 0} (xs : List A) (i : ℕ) (d e : A) → i < length xs → get_or xs i d ≡ get_or xs i e
@@ -26,15 +26,15 @@ never-some {a} e = none-ne-some a e
 
 module _ {A : Type 0} (P : Numbered A → Type 0) where
   -- An item before a list, where one stands.
-  prepend-all : (n : ℕ) (o : Option A) (l : List (Numbered A)) → ((a : A) → o ≡ some a → P (numbered n a)) → All P l → All P (prependStanding n o l)
+  prepend-all : (n : ℕ) (o : Option A) (l : List (Numbered A)) → ((a : A) → o ≡ some a → P (numbered n a)) → All P l → All P (prepend_standing n o l)
   prepend-all n none l h k = k
   prepend-all n (some a) l h k = (h a refl, k)
 
-  prepend-here : (n : ℕ) (a : A) (o : Option A) (l : List (Numbered A)) → o ≡ some a → All P (prependStanding n o l) → P (numbered n a)
+  prepend-here : (n : ℕ) (a : A) (o : Option A) (l : List (Numbered A)) → o ≡ some a → All P (prepend_standing n o l) → P (numbered n a)
   prepend-here n a none l e k = absurd (never-some e)
   prepend-here n a (some b) l e k = subst (λ (x : A). P (numbered n x)) (some-injective b a e) k.0
 
-  prepend-rest : (n : ℕ) (o : Option A) (l : List (Numbered A)) → All P (prependStanding n o l) → All P l
+  prepend-rest : (n : ℕ) (o : Option A) (l : List (Numbered A)) → All P (prepend_standing n o l) → All P l
   prepend-rest n none l k = k
   prepend-rest n (some b) l k = k.1
 
@@ -68,7 +68,7 @@ unfolding standing
 standing-length place from zero = omega arith
 standing-length {A} place from (suc count) = go (place from) (standing-length place (suc from) count)
   where
-    go : (o : Option A) → length (standing place (suc from) count) ≤ count → length (prependStanding from o (standing place (suc from) count)) ≤ suc count
+    go : (o : Option A) → length (standing place (suc from) count) ≤ count → length (prepend_standing from o (standing place (suc from) count)) ≤ suc count
     go none k = omega arith
     go (some a) k = omega arith
 

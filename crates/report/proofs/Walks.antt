@@ -16,9 +16,9 @@ use Rattle.rounding.proofs.Divided.{divided-at-most}
 use Rattle.rounding.proofs.Tests.{and_both}
 use Rattle.metering.specs.Reading.{limit}
 use Rattle.rounding.specs.Outcome.{Outcome, refused, given, and_then}
-use Rattle.emissions.specs.Factor.{direction, factorLimit, siteNamed, captiveJudged, Site, atSite, Chosen, chosen, factorIn}
-use Rattle.emissions.specs.Loss.{lossOf}
-use Rattle.emissions.specs.Figure.{energyWithLosses, gramsOf, figureOf}
+use Rattle.emissions.specs.Factor.{direction, factor_limit, site_named, captive_judged, Site, at_site, Chosen, chosen, factor_in}
+use Rattle.emissions.specs.Loss.{loss_of}
+use Rattle.emissions.specs.Figure.{energy_with_losses, grams_of, figure_of}
 use Rattle.emissions.specs.Figure as figure
 use Rattle.emissions.specs.declared.Consumption.{Consumption}
 use Rattle.emissions.specs.declared.FactorJudged.{FactorJudged}
@@ -30,17 +30,17 @@ use Rattle.emissions.specs.declared.Side.TheVariants.{Project, Leakage, Baseline
 use Rattle.emissions.specs.declared.Supply.{Supply}
 use Rattle.emissions.specs.declared.Supply.TheVariants.{Combined, GridDefault, Captive, CaptiveDefault, Either}
 use Rattle.rounding.proofs.Outcomes.{never-given, given_is, then-given}
-use Rattle.emissions.specs.Grid.{gridIntact}
+use Rattle.emissions.specs.Grid.{grid_intact}
 use Rattle.emissions.proofs.Grids.{intact-sound}
 use Rattle.emissions.proofs.Factors.{captive-given}
 use Rattle.emissions.proofs.Supplies.{chosen-same, factor-limit}
 use Rattle.emissions.proofs.Losses.{LossSound, loss-limit}
 use Rattle.emissions.proofs.Figures.{energy-limit}
-use Rattle.report.specs.Report.{ReportInput, Numbered, prependStanding, standing, selected, captiveAt, plantsIn, plantsOf, sourcesOf, intact, sourceFigure, Figured, Figures, declined, figured, withFigure, figuresFrom, ofSide, replyFrom, reportOf, inputOfRecords}
-use Rattle.records.specs.Judging.{lastSite, supplyWithinLimits, lossWithinLimits}
-use Rattle.report.specs.Intact.{plantIntact, allIntact, sourceIntact, sourcesIntact}
-use Rattle.records.specs.Records.{sourcePlace}
-use Rattle.report.specs.Steps.{sitePlants, totalsOf, noPlants, siteSums, columnFor, rowFor, in_table, milligramsIn, TableOf, CaptiveWithin, figureAt, tableFigure, figuresBy, parts, noSums, oneMore, withGrams, SideBounded, Bounded, sideSum, walkedOf}
+use Rattle.report.specs.Report.{ReportInput, Numbered, prepend_standing, standing, selected, captive_at, plants_in, plants_of, sources_of, intact, source_figure, Figured, Figures, declined, figured, with_figure, figures_from, of_side, reply_from, report_of, input_of_records}
+use Rattle.records.specs.Judging.{last_site, supply_within_limits, loss_within_limits}
+use Rattle.report.specs.Intact.{plant_intact, all_intact, source_intact, sources_intact}
+use Rattle.records.specs.Records.{source_place}
+use Rattle.report.specs.Steps.{site_plants, totals_of, no_plants, site_sums, column_for, row_for, in_table, milligrams_in, TableOf, CaptiveWithin, figure_at, table_figure, figures_by, parts, no_sums, one_more, with_grams, SideBounded, Bounded, side_sum, walked_of}
 use Rattle.records.specs.declared.Plant.{Plant}
 use Rattle.records.specs.declared.Source.{Source}
 use Rattle.records.specs.declared.PlantRecord.{PlantRecord}
@@ -58,101 +58,101 @@ use Rattle.report.proofs.Summing.{intact-item, rest-next, source_fits}
 -- ---- the figure of a source
 
 -- A loss that number 2 does not refuse, and that is open, is at most one half.
-pub loss-sound : (l : Loss) → lossWithinLimits l ≡ true → LossSound l
+pub loss-sound : (l : Loss) → loss_within_limits l ≡ true → LossSound l
 loss-sound Nothing h = tt
 loss-sound (Measured T) h = leb-true T 5000 h
 loss-sound Default20 h = tt
 loss-sound Default3 h = tt
 
-pub open-limit : (dir : Direction) (c : Consumption) (l : Loss) (T : ℕ) → lossWithinLimits l ≡ true → lossOf dir c l ≡ given T → T ≤ 5000
+pub open-limit : (dir : Direction) (c : Consumption) (l : Loss) (T : ℕ) → loss_within_limits l ≡ true → loss_of dir c l ≡ given T → T ≤ 5000
 open-limit dir c l T h e = loss-limit dir c l T (loss-sound l h) e
 
-pub grams-limit : (dir : Direction) (E T F : ℕ) → E ≤ limit → T ≤ 5000 → F ≤ factorLimit
-    → gramsOf dir (energyWithLosses dir E T) F ≤ 1500000000000
-unfolding gramsOf
+pub grams-limit : (dir : Direction) (E T F : ℕ) → E ≤ limit → T ≤ 5000 → F ≤ factor_limit
+    → grams_of dir (energy_with_losses dir E T) F ≤ 1500000000000
+unfolding grams_of
 grams-limit dir E T F e t f =
-    let U = energyWithLosses dir E T in
+    let U = energy_with_losses dir E T in
     divided-at-most dir (U * F) 1000000 1500000000000 (omega arith) (omega (arith, mul-le-mul_right F (energy-limit dir E T e t)))
 
 -- A supply within its limits names a site in range, if it names one.
-named-site : (supply : Supply) → supplyWithinLimits supply ≡ true → (S : ℕ) → siteNamed supply ≡ some S → S ≤ lastSite
+named-site : (supply : Supply) → supply_within_limits supply ≡ true → (S : ℕ) → site_named supply ≡ some S → S ≤ last_site
 named-site Combined h S e = absurd (never-some e)
 named-site GridDefault h S e = absurd (never-some e)
-named-site (Captive N) h S e = subst (λ (n : ℕ). n ≤ lastSite) (some-injective N S e) (leb-true N lastSite h)
+named-site (Captive N) h S e = subst (λ (n : ℕ). n ≤ last_site) (some-injective N S e) (leb-true N last_site h)
 named-site CaptiveDefault h S e = absurd (never-some e)
-named-site (Either N) h S e = subst (λ (n : ℕ). n ≤ lastSite) (some-injective N S e) (leb-true N lastSite h)
+named-site (Either N) h S e = subst (λ (n : ℕ). n ≤ last_site) (some-injective N S e) (leb-true N last_site h)
 
 -- So its row is in the table, and so is the column of every direction.
-pub row-limit : (supply : Supply) → supplyWithinLimits supply ≡ true → rowFor (siteNamed supply) ≤ lastSite
-row-limit supply h = go (siteNamed supply) (named-site supply h)
+pub row-limit : (supply : Supply) → supply_within_limits supply ≡ true → row_for (site_named supply) ≤ last_site
+row-limit supply h = go (site_named supply) (named-site supply h)
   where
-    go : (o : Option ℕ) → ((S : ℕ) → o ≡ some S → S ≤ lastSite) → rowFor o ≤ lastSite
+    go : (o : Option ℕ) → ((S : ℕ) → o ≡ some S → S ≤ last_site) → row_for o ≤ last_site
     go none k = zero-le
     go (some S) k = k S refl
 
-pub column-limit : (dir : Direction) → columnFor dir ≤ 1
+pub column-limit : (dir : Direction) → column_for dir ≤ 1
 column-limit Up = zero-le
 column-limit Down = omega arith
 
 -- The figure by two ways to judge sites is the same where they agree on the site that the source names.
-pub figure-same : (grid : Grid) (captiveAt other : ℕ → Outcome ℕ) (t : Totals) (s : Source)
-    → ((S : ℕ) → siteNamed s.supply ≡ some S → captiveAt S ≡ other S) → figureAt grid captiveAt t s ≡ figureAt grid other t s
-figure-same grid captiveAt other t s h = rw (chosen-same (direction s.side) grid t.factor captiveAt other s.supply h)
+pub figure-same : (grid : Grid) (captive_at other : ℕ → Outcome ℕ) (t : Totals) (s : Source)
+    → ((S : ℕ) → site_named s.supply ≡ some S → captive_at S ≡ other S) → figure_at grid captive_at t s ≡ figure_at grid other t s
+figure-same grid captive_at other t s h = rw (chosen-same (direction s.side) grid t.factor captive_at other s.supply h)
 
-module _ (grid : Grid) (captiveAt : ℕ → Outcome ℕ) (t : Totals) (s : Source) where
-  abbrev factorBy : Direction → Outcome ℕ
-  factorBy dir = factorIn (chosen dir grid captiveAt t.factor s.supply)
+module _ (grid : Grid) (captive_at : ℕ → Outcome ℕ) (t : Totals) (s : Source) where
+  abbrev factor_by : Direction → Outcome ℕ
+  factor_by dir = factor_in (chosen dir grid captive_at t.factor s.supply)
 
   -- The figure with the roundings of any direction.
-  abbrev figureIn : Direction → Outcome figure.Figure
-  figureIn dir =
-      and_then (chosen dir grid captiveAt t.factor s.supply) (λ x.
-      and_then (lossOf dir t.loss s.loss) (λ T.
-      given (figureOf dir s.energy x.choice T x.factor)))
+  abbrev figure_in : Direction → Outcome figure.Figure
+  figure_in dir =
+      and_then (chosen dir grid captive_at t.factor s.supply) (λ x.
+      and_then (loss_of dir t.loss s.loss) (λ T.
+      given (figure_of dir s.energy x.choice T x.factor)))
 
   module _ (dir : Direction) (d : dir ≡ direction s.side) where
-    pub no-factor : (n : ℕ) → factorBy dir ≡ refused n → refused n ≡ parts (figureAt grid captiveAt t s)
-    no-factor n e = go (chosen dir grid captiveAt t.factor s.supply) _ e ∙ ap (λ (k : Direction). parts (figureIn k)) d
+    pub no-factor : (n : ℕ) → factor_by dir ≡ refused n → refused n ≡ parts (figure_at grid captive_at t s)
+    no-factor n e = go (chosen dir grid captive_at t.factor s.supply) _ e ∙ ap (λ (k : Direction). parts (figure_in k)) d
       where
-        go : (o : Outcome Chosen) (f : Chosen → Outcome figure.Figure) → factorIn o ≡ refused n → refused n ≡ parts (and_then o f)
+        go : (o : Outcome Chosen) (f : Chosen → Outcome figure.Figure) → factor_in o ≡ refused n → refused n ≡ parts (and_then o f)
         go (refused m) f e = cc
         go (given x) f e = absurd (never-given (sym e))
 
-    module _ (F : ℕ) (f : factorBy dir ≡ given F) where
-      pub no-loss : (n : ℕ) → lossOf dir t.loss s.loss ≡ refused n → refused n ≡ parts (figureAt grid captiveAt t s)
+    module _ (F : ℕ) (f : factor_by dir ≡ given F) where
+      pub no-loss : (n : ℕ) → loss_of dir t.loss s.loss ≡ refused n → refused n ≡ parts (figure_at grid captive_at t s)
       no-loss n e =
-          let p = then-given (chosen dir grid captiveAt t.factor s.supply) _ f in
+          let p = then-given (chosen dir grid captive_at t.factor s.supply) _ f in
           rw (← d) (simp (p.1, e))
 
-      pub both-parts : (T U g : ℕ) → lossOf dir t.loss s.loss ≡ given T → U ≡ energyWithLosses dir s.energy T
-          → g ≡ gramsOf dir (energyWithLosses dir s.energy T) F
-          → given (record { factor = F; energy = U; grams = g }) ≡ parts (figureAt grid captiveAt t s)
-      unfolding figureOf
+      pub both-parts : (T U g : ℕ) → loss_of dir t.loss s.loss ≡ given T → U ≡ energy_with_losses dir s.energy T
+          → g ≡ grams_of dir (energy_with_losses dir s.energy T) F
+          → given (record { factor = F; energy = U; grams = g }) ≡ parts (figure_at grid captive_at t s)
+      unfolding figure_of
       both-parts T U g e u h =
-          let p = then-given (chosen dir grid captiveAt t.factor s.supply) _ f in
+          let p = then-given (chosen dir grid captive_at t.factor s.supply) _ f in
           go p.0 p.1 (given_is p.2)
         where
-          go : (x : Chosen) → chosen dir grid captiveAt t.factor s.supply ≡ given x → x.factor ≡ F
-              → given (record { factor = F; energy = U; grams = g }) ≡ parts (figureAt grid captiveAt t s)
+          go : (x : Chosen) → chosen dir grid captive_at t.factor s.supply ≡ given x → x.factor ≡ F
+              → given (record { factor = F; energy = U; grams = g }) ≡ parts (figure_at grid captive_at t s)
           go x k l = rw (← d) (simp (u, h, k, e, l))
 
   -- Where the grid is intact and each captive factor is within its limit, so is the factor of every supply,
-  module _ (hg : gridIntact grid ≡ true) (within : (S : ℕ) → CaptiveWithin (captiveAt S)) where
-    chosen-limit : (dir : Direction) (x : Chosen) → chosen dir grid captiveAt t.factor s.supply ≡ given x → x.factor ≤ factorLimit
-    chosen-limit dir x e = factor-limit dir grid captiveAt t.factor (intact-sound grid hg) within s.supply x e
+  module _ (hg : grid_intact grid ≡ true) (within : (S : ℕ) → CaptiveWithin (captive_at S)) where
+    chosen-limit : (dir : Direction) (x : Chosen) → chosen dir grid captive_at t.factor s.supply ≡ given x → x.factor ≤ factor_limit
+    chosen-limit dir x e = factor-limit dir grid captive_at t.factor (intact-sound grid hg) within s.supply x e
 
-    pub given-limit : (dir : Direction) (F : ℕ) → factorBy dir ≡ given F → F ≤ factorLimit
+    pub given-limit : (dir : Direction) (F : ℕ) → factor_by dir ≡ given F → F ≤ factor_limit
     given-limit dir F e =
-        let p = then-given (chosen dir grid captiveAt t.factor s.supply) _ e in
-        subst (λ (n : ℕ). n ≤ factorLimit) (given_is p.2) (chosen-limit dir p.0 p.1)
+        let p = then-given (chosen dir grid captive_at t.factor s.supply) _ e in
+        subst (λ (n : ℕ). n ≤ factor_limit) (given_is p.2) (chosen-limit dir p.0 p.1)
 
     -- and the figure of an intact source is at most 1,500,000,000,000 grams.
-    pub figure-limit : sourceIntact (some s) ≡ true → (f : figure.Figure) → figureAt grid captiveAt t s ≡ given f → f.grams ≤ 1500000000000
-    unfolding figureOf
+    pub figure-limit : source_intact (some s) ≡ true → (f : figure.Figure) → figure_at grid captive_at t s ≡ given f → f.grams ≤ 1500000000000
+    unfolding figure_of
     figure-limit hs f e =
         let dir = direction s.side in
-        let p = then-given (chosen dir grid captiveAt t.factor s.supply) _ e in
-        let q = then-given (lossOf dir t.loss s.loss) _ p.2 in
+        let p = then-given (chosen dir grid captive_at t.factor s.supply) _ e in
+        let q = then-given (loss_of dir t.loss s.loss) _ p.2 in
         let fits = source_fits s hs in
         subst (λ (g : figure.Figure). g.grams ≤ 1500000000000) (given_is q.2)
         (grams-limit dir s.energy q.0 p.0.factor fits.2 (open-limit dir t.loss s.loss q.0 fits.1 q.1)
@@ -171,18 +171,18 @@ same-sums e f g = rw (e, f, g)
 abbrev more : SideSum → SideSum → SideSum
 more a b = record { grams = a.grams + b.grams; sources = a.sources + b.sources }
 
-abbrev moreSums : Sums → List Figured → Sums
-moreSums acc fs =
+abbrev more_sums : Sums → List Figured → Sums
+more_sums acc fs =
     record {
-      project = more acc.project (sideSum Project fs);
-      leakage = more acc.leakage (sideSum Leakage fs);
-      baseline = more acc.baseline (sideSum Baseline fs);
+      project = more acc.project (side_sum Project fs);
+      leakage = more acc.leakage (side_sum Leakage fs);
+      baseline = more acc.baseline (side_sum Baseline fs);
     }
 
 -- What the walk answers where it has summed up so far and the figures are left.
 abbrev pub resumed : Sums → Figures → Walked
 resumed acc (declined n k) = walked.Refused n k
-resumed acc (figured fs) = walked.Summed (moreSums acc fs)
+resumed acc (figured fs) = walked.Summed (more_sums acc fs)
 
 more-first : (s : SideSum) → more (record { grams = 0; sources = 0 }) s ≡ s
 more-first s = same-side (omega arith) (omega arith)
@@ -191,129 +191,129 @@ more-last : (s : SideSum) → more s (record { grams = 0; sources = 0 }) ≡ s
 more-last s = same-side (omega arith) (omega arith)
 
 -- At first nothing is summed up, and at the end nothing is left.
-pub resumed-first : (x : Figures) → resumed noSums x ≡ walkedOf x
+pub resumed-first : (x : Figures) → resumed no_sums x ≡ walked_of x
 resumed-first (declined n k) = refl
 resumed-first (figured fs) = ap walked.Summed (same-sums (more-first _) (more-first _) (more-first _))
 
 pub resumed-last : (acc : Sums) → resumed acc (figured []) ≡ walked.Summed acc
-unfolding sideSum ofSide selected sum
+unfolding side_sum of_side selected sum
 resumed-last acc = ap walked.Summed (same-sums (more-last _) (more-last _) (more-last _))
 
-one_more : (acc : Sums) (n : ℕ) (side : Side) (f : figure.Figure) (fs : List Figured)
-    → moreSums acc (record { number = n; side = side; figure = f } ∷ fs) ≡ moreSums (withGrams acc side f.grams) fs
-unfolding sideSum ofSide selected sum
-one_more acc n Project f fs = same-sums (same-side (omega arith) (omega arith)) refl refl
-one_more acc n Leakage f fs = same-sums refl (same-side (omega arith) (omega arith)) refl
-one_more acc n Baseline f fs = same-sums refl refl (same-side (omega arith) (omega arith))
+one_more_lem : (acc : Sums) (n : ℕ) (side : Side) (f : figure.Figure) (fs : List Figured)
+    → more_sums acc (record { number = n; side = side; figure = f } ∷ fs) ≡ more_sums (with_grams acc side f.grams) fs
+unfolding side_sum of_side selected sum
+one_more_lem acc n Project f fs = same-sums (same-side (omega arith) (omega arith)) refl refl
+one_more_lem acc n Leakage f fs = same-sums refl (same-side (omega arith) (omega arith)) refl
+one_more_lem acc n Baseline f fs = same-sums refl refl (same-side (omega arith) (omega arith))
 
 -- A source before the figures left: by its figure, or by its refusal.
 module _ (acc : Sums) (x : Numbered Source) where
   with-given : (o : Outcome figure.Figure) (f : Figure) (r : Figures) → parts o ≡ given f
-      → resumed acc (withFigure x o r) ≡ resumed (withGrams acc x.item.side f.grams) r
+      → resumed acc (with_figure x o r) ≡ resumed (with_grams acc x.item.side f.grams) r
   with-given (refused n) f r e = absurd (never-given e)
-  with-given (given h) f r e = go r ∙ ap (λ (k : Figure). resumed (withGrams acc x.item.side k.grams) r) (given_is e)
+  with-given (given h) f r e = go r ∙ ap (λ (k : Figure). resumed (with_grams acc x.item.side k.grams) r) (given_is e)
     where
-      go : (r : Figures) → resumed acc (withFigure x (given h) r) ≡ resumed (withGrams acc x.item.side h.grams) r
+      go : (r : Figures) → resumed acc (with_figure x (given h) r) ≡ resumed (with_grams acc x.item.side h.grams) r
       go (declined n k) = refl
-      go (figured fs) = ap walked.Summed (one_more acc x.number x.item.side h fs)
+      go (figured fs) = ap walked.Summed (one_more_lem acc x.number x.item.side h fs)
 
-  with-refused : (o : Outcome figure.Figure) (n : ℕ) (r : Figures) → parts o ≡ refused n → resumed acc (withFigure x o r) ≡ walked.Refused n x.number
+  with-refused : (o : Outcome figure.Figure) (n : ℕ) (r : Figures) → parts o ≡ refused n → resumed acc (with_figure x o r) ≡ walked.Refused n x.number
   with-refused (refused m) n r e = cc
   with-refused (given h) n r e = absurd (never-given (sym e))
 
 -- ---- what is left of the walk at a number, whatever gives the figure of each source
 
-module _ (figureOf : Source → Outcome figure.Figure) (place : ℕ → Option Source) where
+module _ (figure_of : Source → Outcome figure.Figure) (place : ℕ → Option Source) where
   abbrev pub left : ℕ → Figures
-  left i = figuresBy figureOf (standing place i (32 - i))
+  left i = figures_by figure_of (standing place i (32 - i))
 
   pub left-none : left 32 ≡ figured []
-  unfolding standing figuresBy
+  unfolding standing figures_by
   left-none = refl
 
   module _ (acc : Sums) (i : ℕ) (h : i < 32) where
     pub skips : place i ≡ none → resumed acc (left i) ≡ resumed acc (left (i + 1))
     skips e =
-        ap (resumed acc) (ap (figuresBy figureOf)
-        (rest-next place 32 i h ∙ ap (λ (o : Option Source). prependStanding i o (standing place (i + 1) (32 - (i + 1)))) e))
+        ap (resumed acc) (ap (figures_by figure_of)
+        (rest-next place 32 i h ∙ ap (λ (o : Option Source). prepend_standing i o (standing place (i + 1) (32 - (i + 1)))) e))
 
     module _ (s : Source) (e : place i ≡ some s) where
-      left-some : left i ≡ withFigure (numbered i s) (figureOf s) (left (i + 1))
-      unfolding figuresBy
-      left-some = ap (figuresBy figureOf) (rest-next place 32 i h) ∙ rw e
+      left-some : left i ≡ with_figure (numbered i s) (figure_of s) (left (i + 1))
+      unfolding figures_by
+      left-some = ap (figures_by figure_of) (rest-next place 32 i h) ∙ rw e
 
-      pub goes_on : (f : Figure) → parts (figureOf s) ≡ given f → resumed acc (left i) ≡ resumed (withGrams acc s.side f.grams) (left (i + 1))
-      goes_on f k = ap (resumed acc) left-some ∙ with-given acc (numbered i s) (figureOf s) f _ k
+      pub goes_on : (f : Figure) → parts (figure_of s) ≡ given f → resumed acc (left i) ≡ resumed (with_grams acc s.side f.grams) (left (i + 1))
+      goes_on f k = ap (resumed acc) left-some ∙ with-given acc (numbered i s) (figure_of s) f _ k
 
-      pub stops : (n : ℕ) → parts (figureOf s) ≡ refused n → resumed acc (left i) ≡ walked.Refused n i
-      stops n k = ap (resumed acc) left-some ∙ with-refused acc (numbered i s) (figureOf s) n _ k
+      pub stops : (n : ℕ) → parts (figure_of s) ≡ refused n → resumed acc (left i) ≡ walked.Refused n i
+      stops n k = ap (resumed acc) left-some ∙ with-refused acc (numbered i s) (figure_of s) n _ k
 
 -- ---- the figures of the report
 
 figures-agree : (f g : Source → Outcome figure.Figure) (xs : List (Numbered Source)) → All (λ (x : Numbered Source). f x.item ≡ g x.item) xs
-    → figuresBy f xs ≡ figuresBy g xs
-unfolding figuresBy
+    → figures_by f xs ≡ figures_by g xs
+unfolding figures_by
 figures-agree f g [] h = refl
 figures-agree f g (x ∷ xs) h = rw (h.0, figures-agree f g xs h.1)
 
-figures-by : (b : ReportInput) (xs : List (Numbered Source)) → figuresFrom b xs ≡ figuresBy (sourceFigure b) xs
-unfolding figuresFrom figuresBy
+figures-by : (b : ReportInput) (xs : List (Numbered Source)) → figures_from b xs ≡ figures_by (source_figure b) xs
+unfolding figures_from figures_by
 figures-by b [] = refl
 figures-by b (x ∷ xs) = rw (figures-by b xs)
 
 -- The table of the sums of the sites has what the rules give for each site.
 pub table_is : (site : ℕ → Site) (sites : List SiteSums) (factors : List (List FactorJudged))
-    → ((S : ℕ) → S ≤ lastSite → get_or sites S noPlants ≡ siteSums (site S)) → TableOf sites factors
-    → (dir : Direction) (S : ℕ) → S ≤ lastSite → in_table factors dir S ≡ atSite dir (site S)
-table_is site sites factors h t dir S l = t S l dir ∙ ap (λ (s : SiteSums). captiveJudged dir (milligramsIn dir s) s.generation) (h S l) ∙ go dir
+    → ((S : ℕ) → S ≤ last_site → get_or sites S no_plants ≡ site_sums (site S)) → TableOf sites factors
+    → (dir : Direction) (S : ℕ) → S ≤ last_site → in_table factors dir S ≡ at_site dir (site S)
+table_is site sites factors h t dir S l = t S l dir ∙ ap (λ (s : SiteSums). captive_judged dir (milligrams_in dir s) s.generation) (h S l) ∙ go dir
   where
-    go : (k : Direction) → captiveJudged k (milligramsIn k (siteSums (site S))) (site S).generation ≡ atSite k (site S)
+    go : (k : Direction) → captive_judged k (milligrams_in k (site_sums (site S))) (site S).generation ≡ at_site k (site S)
     go Up = refl
     go Down = refl
 
 -- Figures by a table are those of the report, where the table has what the rules give for each site and the totals are those of the sources.
 pub report-figures : (grid : Grid) (plants : List PlantRecord) (sources : List SourceRecord) (factors : List (List FactorJudged))
-    → ((dir : Direction) (S : ℕ) → S ≤ lastSite → in_table factors dir S ≡ captiveAt dir (sitePlants plants) S) → sourcesIntact sources ≡ true
-    → let b = inputOfRecords grid plants sources in
-    figuresBy (tableFigure grid factors (totalsOf (sourcePlace sources))) (standing (sourcePlace sources) 0 32) ≡ figuresFrom b (sourcesOf b)
-unfolding sourceFigure
+    → ((dir : Direction) (S : ℕ) → S ≤ last_site → in_table factors dir S ≡ captive_at dir (site_plants plants) S) → sources_intact sources ≡ true
+    → let b = input_of_records grid plants sources in
+    figures_by (table_figure grid factors (totals_of (source_place sources))) (standing (source_place sources) 0 32) ≡ figures_from b (sources_of b)
+unfolding source_figure
 report-figures grid plants sources factors table h =
-    figures-agree _ _ (standing (sourcePlace sources) 0 32) (standing-all (sourcePlace sources) _ 0 32 (λ n s e l u.
-    let w = intact-item sourceIntact (sourcePlace sources) 32 n s h u e in
+    figures-agree _ _ (standing (source_place sources) 0 32) (standing-all (source_place sources) _ 0 32 (λ n s e l u.
+    let w = intact-item source_intact (source_place sources) 32 n s h u e in
     figure-same grid _ _ _ s (λ S q. table (direction s.side) S (named-site s.supply (source_fits s w).0 S q))))
-    ∙ sym (figures-by (inputOfRecords grid plants sources) _)
+    ∙ sym (figures-by (input_of_records grid plants sources) _)
 
 -- A site shows in a report only by the sources that name it: with other plants, the report is the same where the sites that sources name are
 -- judged the same.
 pub unnamed-never-shows : (b : ReportInput) (plant : ℕ → Option Plant)
-    → ((n : ℕ) (s : Source) → b.source n ≡ some s → (S : ℕ) → siteNamed s.supply ≡ some S → (dir : Direction)
-    → captiveAt dir (plantsOf b) S ≡ captiveAt dir (plantsIn plant) S)
-    → reportOf b ≡ reportOf (record { grid = b.grid; plant = plant; source = b.source })
-unfolding reportOf sourceFigure
+    → ((n : ℕ) (s : Source) → b.source n ≡ some s → (S : ℕ) → site_named s.supply ≡ some S → (dir : Direction)
+    → captive_at dir (plants_of b) S ≡ captive_at dir (plants_in plant) S)
+    → report_of b ≡ report_of (record { grid = b.grid; plant = plant; source = b.source })
+unfolding report_of source_figure
 unnamed-never-shows b plant h =
     let other : ReportInput = record { grid = b.grid; plant = plant; source = b.source } in
-    ap replyFrom (
-    figures-by b (sourcesOf b)
-    ∙ figures-agree (sourceFigure b) (sourceFigure other) (sourcesOf b) (standing-all b.source _ 0 32 (λ n s e l u.
-    figure-same b.grid _ _ (totalsOf b.source) s (λ S q. h n s e S q (direction s.side))))
-    ∙ sym (figures-by other (sourcesOf b)))
+    ap reply_from (
+    figures-by b (sources_of b)
+    ∙ figures-agree (source_figure b) (source_figure other) (sources_of b) (standing-all b.source _ 0 32 (λ n s e l u.
+    figure-same b.grid _ _ (totals_of b.source) s (λ S q. h n s e S q (direction s.side))))
+    ∙ sym (figures-by other (sources_of b)))
 
 -- The figure of a source of an intact ledger is at most 1,500,000,000,000 grams.
 pub intact-figure-limit : (b : ReportInput) → intact b ≡ true → (n : ℕ) (s : Source) (f : figure.Figure) → n < 32 → b.source n ≡ some s
-    → sourceFigure b s ≡ given f → f.grams ≤ 1500000000000
-unfolding intact sourceFigure
+    → source_figure b s ≡ given f → f.grams ≤ 1500000000000
+unfolding intact source_figure
 intact-figure-limit b h n s f l at e =
-    let p = and_both (gridIntact b.grid && allIntact plantIntact b.plant 8) _ h in
-    let q = and_both (gridIntact b.grid) _ p.0 in
+    let p = and_both (grid_intact b.grid && all_intact plant_intact b.plant 8) _ h in
+    let q = and_both (grid_intact b.grid) _ p.0 in
     let dir = direction s.side in
-    figure-limit b.grid (captiveAt dir (plantsOf b)) (totalsOf b.source) s q.0 (λ S F k. (captive-given dir _ _ F k).2)
-    (intact-item sourceIntact b.source 32 n s p.1 l at) f e
+    figure-limit b.grid (captive_at dir (plants_of b)) (totals_of b.source) s q.0 (λ S F k. (captive-given dir _ _ F k).2)
+    (intact-item source_intact b.source 32 n s p.1 l at) f e
 
 -- ---- limits
 
-pub none-bounded : Bounded 0 noSums
+pub none-bounded : Bounded 0 no_sums
 none-bounded =
-    let z : SideBounded 0 noSums.project = record { grams = omega arith; sources = omega arith } in
+    let z : SideBounded 0 no_sums.project = record { grams = omega arith; sources = omega arith } in
     record { project = z; leakage = z; baseline = z }
 
 side-widen : (i j : ℕ) (s : SideSum) → i ≤ j → SideBounded i s → SideBounded j s
@@ -327,10 +327,10 @@ bounded-widen i j s h b =
       baseline = side-widen i j s.baseline h b.baseline;
     }
 
-side-more : (i g : ℕ) (s : SideSum) → g ≤ 1500000000000 → SideBounded i s → SideBounded (i + 1) (oneMore s g)
+side-more : (i g : ℕ) (s : SideSum) → g ≤ 1500000000000 → SideBounded i s → SideBounded (i + 1) (one_more s g)
 side-more i g s h b = record { grams = omega arith; sources = omega arith }
 
-pub bounded-more : (i g : ℕ) (side : Side) (s : Sums) → g ≤ 1500000000000 → Bounded i s → Bounded (i + 1) (withGrams s side g)
+pub bounded-more : (i g : ℕ) (side : Side) (s : Sums) → g ≤ 1500000000000 → Bounded i s → Bounded (i + 1) (with_grams s side g)
 bounded-more i g Project s h b =
     let w = bounded-widen i (i + 1) s (omega arith) b in
     record { project = side-more i g s.project h b.project; leakage = w.leakage; baseline = w.baseline }

@@ -5,16 +5,16 @@ use Rattle.rounding.specs.Divided.{divided, sum}
 use Rattle.rounding.specs.Ratio.{Ratio, ◌÷◌, ◌*ᵣ◌, sumᵣ}
 use Rattle.rounding.specs.declared.Direction.{Direction}
 use Rattle.rounding.specs.declared.Direction.TheVariants.{Up, Down}
-use Rattle.fuel.specs.Fuel.{exactMilligrams, roundedMilligrams}
+use Rattle.fuel.specs.Fuel.{exact_milligrams, rounded_milligrams}
 use Rattle.fuel.specs.declared.FuelLine.{FuelLine}
-use Rattle.records.specs.Heat.{hasHeat, fuelEnergy}
+use Rattle.records.specs.Heat.{has_heat, fuel_energy}
 
 -- The lines' milligrams, each line rounded, and exactly.
-unfoldable pub linesMilligrams : Direction → List FuelLine → ℕ
-linesMilligrams dir ls = sum (map (roundedMilligrams dir) ls)
+unfoldable pub lines_milligrams : Direction → List FuelLine → ℕ
+lines_milligrams dir ls = sum (map (rounded_milligrams dir) ls)
 
-unfoldable pub exactLines : List FuelLine → Ratio
-exactLines ls = sumᵣ (map exactMilligrams ls)
+unfoldable pub exact_lines : List FuelLine → Ratio
+exact_lines ls = sumᵣ (map exact_milligrams ls)
 
 -- "(J - H) × A ÷ 1,000, where J is the plant's summed Q × V and A its fuel lines' rounded milligrams × 1,000 ÷ J, each rounded down": R are the
 -- rounded milligrams. Number 17 keeps H at or below J, so that J - H is the whole difference.
@@ -22,22 +22,22 @@ unfoldable pub allocated : ℕ → ℕ → ℕ → ℕ
 allocated J H R = divided Down ((J - H) * divided Down (R * 1000) J) 1000
 
 -- "The exact value uses the unrounded quotient": (J - H) × x ÷ J, where x are the lines' exact milligrams. Again 17 keeps H at or below J.
-unfoldable pub exactAllocated : ℕ → ℕ → Ratio → Ratio
-exactAllocated J H x = x *ᵣ ((J - H) ÷ J)
+unfoldable pub exact_allocated : ℕ → ℕ → Ratio → Ratio
+exact_allocated J H x = x *ᵣ ((J - H) ÷ J)
 
 -- "For project and leakage nothing changes. For baseline the plant's milligrams become .."; "H zero or unstated means as before."
-abbrev pub isAllocated : Direction → ℕ → Bool
-isAllocated Up H = false
-isAllocated Down H = hasHeat H
+abbrev pub is_allocated : Direction → ℕ → Bool
+is_allocated Up H = false
+is_allocated Down H = has_heat H
 
-unfoldable pub electricityMilligrams : Direction → ℕ → List FuelLine → ℕ
-electricityMilligrams dir H ls =
-    cond (isAllocated dir H) (allocated (fuelEnergy ls) H (linesMilligrams dir ls)) (linesMilligrams dir ls)
+unfoldable pub electricity_milligrams : Direction → ℕ → List FuelLine → ℕ
+electricity_milligrams dir H ls =
+    cond (is_allocated dir H) (allocated (fuel_energy ls) H (lines_milligrams dir ls)) (lines_milligrams dir ls)
 
-unfoldable pub exactElectricity : Direction → ℕ → List FuelLine → Ratio
-exactElectricity dir H ls =
-    cond (isAllocated dir H) (exactAllocated (fuelEnergy ls) H (exactLines ls)) (exactLines ls)
+unfoldable pub exact_electricity : Direction → ℕ → List FuelLine → Ratio
+exact_electricity dir H ls =
+    cond (is_allocated dir H) (exact_allocated (fuel_energy ls) H (exact_lines ls)) (exact_lines ls)
 
 -- J of a plant with heat; nothing of one without.
-unfoldable pub heatedEnergy : ℕ → List FuelLine → ℕ
-heatedEnergy H ls = cond (hasHeat H) (fuelEnergy ls) 0
+unfoldable pub heated_energy : ℕ → List FuelLine → ℕ
+heated_energy H ls = cond (has_heat H) (fuel_energy ls) 0

@@ -7,20 +7,20 @@ use Rattle.rounding.specs.Ratio.{Ratio, sumᵣ}
 use Rattle.rounding.specs.declared.Direction.{Direction}
 use Rattle.fuel.specs.declared.FuelLine.{FuelLine}
 use Rattle.rounding.specs.Outcome.{Outcome, refused, given, and_then}
-use Rattle.emissions.specs.Factor.{direction, Site, atSite, chosen}
-use Rattle.emissions.specs.Loss.{isProject, isBaseline, lossOf}
-use Rattle.emissions.specs.Figure.{Figure, figureOf}
+use Rattle.emissions.specs.Factor.{direction, Site, at_site, chosen}
+use Rattle.emissions.specs.Loss.{is_project, is_baseline, loss_of}
+use Rattle.emissions.specs.Figure.{Figure, figure_of}
 use Rattle.emissions.specs.declared.Side.{Side}
 use Rattle.emissions.specs.declared.Side.TheVariants.{Project, Leakage, Baseline}
 use Rattle.emissions.specs.declared.Supply.{Supply}
 use Rattle.emissions.specs.declared.Supply.TheVariants.{Combined, GridDefault, Captive, CaptiveDefault, Either}
-use Rattle.emissions.specs.Grid.{gridIntact}
+use Rattle.emissions.specs.Grid.{grid_intact}
 use Rattle.emissions.specs.declared.Grid.{Grid}
 use Rattle.emissions.specs.declared.Consumption.{Consumption}
 use Rattle.records.specs.Judging.{lines_of}
-use Rattle.records.specs.Records.{plantPlace, sourcePlace}
-use Rattle.report.specs.Heat.{electricityMilligrams, exactElectricity, heatedEnergy}
-use Rattle.report.specs.Intact.{plantIntact, sourceIntact, allIntact}
+use Rattle.records.specs.Records.{plant_place, source_place}
+use Rattle.report.specs.Heat.{electricity_milligrams, exact_electricity, heated_energy}
+use Rattle.report.specs.Intact.{plant_intact, source_intact, all_intact}
 use Rattle.records.specs.declared.Plant.{Plant}
 use Rattle.records.specs.declared.Source.{Source}
 use Rattle.records.specs.declared.PlantRecord.{PlantRecord}
@@ -37,17 +37,17 @@ pub record Numbered (A : Type 0) : Type 0 where
   pub number : ℕ
   pub item : A
 
-abbrev pub prependStanding : {A : Type 0} → ℕ → Option A → List (Numbered A) → List (Numbered A)
-prependStanding n none l = l
-prependStanding n (some a) l = record { number = n; item = a } ∷ l
+abbrev pub prepend_standing : {A : Type 0} → ℕ → Option A → List (Numbered A) → List (Numbered A)
+prepend_standing n none l = l
+prepend_standing n (some a) l = record { number = n; item = a } ∷ l
 
 unfoldable pub standing : {A : Type 0} → (ℕ → Option A) → ℕ → ℕ → List (Numbered A)
 standing place from zero = []
-standing place from (suc count) = prependStanding from (place from) (standing place (suc from) count)
+standing place from (suc count) = prepend_standing from (place from) (standing place (suc from) count)
 
 -- "Sources are numbered 0 to 31, plants 0 to 7".
-abbrev pub sourcesOf : ReportInput → List (Numbered Source)
-sourcesOf input = standing input.source 0 32
+abbrev pub sources_of : ReportInput → List (Numbered Source)
+sources_of input = standing input.source 0 32
 
 -- A plant as the rules read it: its site, its generation in kWh, its heat in kJ, and the fuel lines that count.
 pub record PlainPlant : Type 0 where
@@ -59,14 +59,14 @@ pub record PlainPlant : Type 0 where
 abbrev pub plain_of : Plant → PlainPlant
 plain_of p = record { site = p.site; generation = p.generation; heat = p.heat; lines = lines_of p }
 
-abbrev pub plainAt : (ℕ → Option Plant) → ℕ → Option PlainPlant
-plainAt place n = Option.map plain_of (place n)
+abbrev pub plain_at : (ℕ → Option Plant) → ℕ → Option PlainPlant
+plain_at place n = Option.map plain_of (place n)
 
-abbrev pub plantsIn : (ℕ → Option Plant) → List (Numbered PlainPlant)
-plantsIn place = standing (plainAt place) 0 8
+abbrev pub plants_in : (ℕ → Option Plant) → List (Numbered PlainPlant)
+plants_in place = standing (plain_at place) 0 8
 
-abbrev pub plantsOf : ReportInput → List (Numbered PlainPlant)
-plantsOf input = plantsIn input.plant
+abbrev pub plants_of : ReportInput → List (Numbered PlainPlant)
+plants_of input = plants_in input.plant
 
 -- Those of a list that pass a test.
 unfoldable pub selected : {A : Type 0} → (A → Bool) → List A → List A
@@ -76,78 +76,78 @@ selected p (x ∷ xs) = cond (p x) (x ∷ selected p xs) (selected p xs)
 -- ---- P, B, P' and B'
 
 -- Whether a source counts: by its supply, and by whether it is a project or leakage source or a baseline source.
-abbrev pub countsIn : (Supply → Bool) → (Direction → Bool) → Numbered Source → Bool
-countsIn supplies sides x = supplies x.item.supply && sides (direction x.item.side)
+abbrev pub counts_in : (Supply → Bool) → (Direction → Bool) → Numbered Source → Bool
+counts_in supplies sides x = supplies x.item.supply && sides (direction x.item.side)
 
-abbrev pub energyIn : Numbered Source → ℕ
-energyIn x = x.item.energy
+abbrev pub energy_in : Numbered Source → ℕ
+energy_in x = x.item.energy
 
 -- "the sum of E over project and leakage sources with .. supply, B over baseline sources", and how many of each stand.
 unfoldable pub consumption : (Supply → Bool) → List (Numbered Source) → Consumption
 consumption supplies xs =
     record {
-      project = sum (map energyIn (selected (countsIn supplies isProject) xs));
-      baseline = sum (map energyIn (selected (countsIn supplies isBaseline) xs));
-      projects = length (selected (countsIn supplies isProject) xs);
-      baselines = length (selected (countsIn supplies isBaseline) xs);
+      project = sum (map energy_in (selected (counts_in supplies is_project) xs));
+      baseline = sum (map energy_in (selected (counts_in supplies is_baseline) xs));
+      projects = length (selected (counts_in supplies is_project) xs);
+      baselines = length (selected (counts_in supplies is_baseline) xs);
     }
 
 -- P and B: "with combined or griddefault supply".
-abbrev pub comparesFactor : Supply → Bool
-comparesFactor Combined = true
-comparesFactor GridDefault = true
-comparesFactor (Captive S) = false
-comparesFactor CaptiveDefault = false
-comparesFactor (Either S) = false
+abbrev pub compares_factor : Supply → Bool
+compares_factor Combined = true
+compares_factor GridDefault = true
+compares_factor (Captive S) = false
+compares_factor CaptiveDefault = false
+compares_factor (Either S) = false
 
 -- P' and B': "sums of E like P and B, over combined, griddefault and either".
-abbrev pub comparesLoss : Supply → Bool
-comparesLoss Combined = true
-comparesLoss GridDefault = true
-comparesLoss (Captive S) = false
-comparesLoss CaptiveDefault = false
-comparesLoss (Either S) = true
+abbrev pub compares_loss : Supply → Bool
+compares_loss Combined = true
+compares_loss GridDefault = true
+compares_loss (Captive S) = false
+compares_loss CaptiveDefault = false
+compares_loss (Either S) = true
 
 -- ---- a site
 
 -- A plant's milligrams, rounded and exactly; and its J where it has heat.
-unfoldable pub plantMilligrams : Direction → PlainPlant → ℕ
-plantMilligrams dir p = electricityMilligrams dir p.heat p.lines
+unfoldable pub plant_milligrams : Direction → PlainPlant → ℕ
+plant_milligrams dir p = electricity_milligrams dir p.heat p.lines
 
-unfoldable pub exactPlant : Direction → PlainPlant → Ratio
-exactPlant dir p = exactElectricity dir p.heat p.lines
+unfoldable pub exact_plant : Direction → PlainPlant → Ratio
+exact_plant dir p = exact_electricity dir p.heat p.lines
 
-unfoldable pub plantHeated : PlainPlant → ℕ
-plantHeated p = heatedEnergy p.heat p.lines
+unfoldable pub plant_heated : PlainPlant → ℕ
+plant_heated p = heated_energy p.heat p.lines
 
 -- "each plant at S".
-unfoldable pub plantsAt : ℕ → List (Numbered PlainPlant) → List PlainPlant
-plantsAt S xs = map item (selected (λ (x : Numbered PlainPlant). eqb x.item.site S) xs)
+unfoldable pub plants_at : ℕ → List (Numbered PlainPlant) → List PlainPlant
+plants_at S xs = map item (selected (λ (x : Numbered PlainPlant). eqb x.item.site S) xs)
   where
     item : Numbered PlainPlant → PlainPlant
     item x = x.item
 
-unfoldable pub siteOf : List (Numbered PlainPlant) → ℕ → Site
-siteOf xs S =
+unfoldable pub site_of : List (Numbered PlainPlant) → ℕ → Site
+site_of xs S =
     record {
-      milligrams = λ dir. sum (map (plantMilligrams dir) (plantsAt S xs));
-      exact = λ dir. sumᵣ (map (exactPlant dir) (plantsAt S xs));
-      generation = sum (map (λ (p : PlainPlant). p.generation) (plantsAt S xs));
-      heated = sum (map plantHeated (plantsAt S xs));
+      milligrams = λ dir. sum (map (plant_milligrams dir) (plants_at S xs));
+      exact = λ dir. sumᵣ (map (exact_plant dir) (plants_at S xs));
+      generation = sum (map (λ (p : PlainPlant). p.generation) (plants_at S xs));
+      heated = sum (map plant_heated (plants_at S xs));
     }
 
 -- The rounded captive factor of each site in a direction, or its refusal.
-abbrev pub captiveAt : Direction → List (Numbered PlainPlant) → ℕ → Outcome ℕ
-captiveAt dir plants S = atSite dir (siteOf plants S)
+abbrev pub captive_at : Direction → List (Numbered PlainPlant) → ℕ → Outcome ℕ
+captive_at dir plants S = at_site dir (site_of plants S)
 
 -- ---- the figure of each source
 
 -- "for each source, by rising number: 8 .. 9 .. 10 .. 11 .. 12".
-unfoldable pub sourceFigure : ReportInput → Source → Outcome Figure
-sourceFigure input s =
-    and_then (chosen (direction s.side) input.grid (captiveAt (direction s.side) (plantsOf input)) (consumption comparesFactor (sourcesOf input)) s.supply) (λ x.
-    and_then (lossOf (direction s.side) (consumption comparesLoss (sourcesOf input)) s.loss) (λ T.
-    given (figureOf (direction s.side) s.energy x.choice T x.factor)))
+unfoldable pub source_figure : ReportInput → Source → Outcome Figure
+source_figure input s =
+    and_then (chosen (direction s.side) input.grid (captive_at (direction s.side) (plants_of input)) (consumption compares_factor (sources_of input)) s.supply) (λ x.
+    and_then (loss_of (direction s.side) (consumption compares_loss (sources_of input)) s.loss) (λ T.
+    given (figure_of (direction s.side) s.energy x.choice T x.factor)))
 
 -- A source with its figure; or the first refusal, which "carries the source's number".
 pub record Figured : Type 0 where
@@ -163,23 +163,23 @@ abbrev pub prepended : Figured → Figures → Figures
 prepended f (declined n k) = declined n k
 prepended f (figured fs) = figured (f ∷ fs)
 
-abbrev pub withFigure : Numbered Source → Outcome Figure → Figures → Figures
-withFigure x (refused n) rest = declined n x.number
-withFigure x (given f) rest = prepended (record { number = x.number; side = x.item.side; figure = f }) rest
+abbrev pub with_figure : Numbered Source → Outcome Figure → Figures → Figures
+with_figure x (refused n) rest = declined n x.number
+with_figure x (given f) rest = prepended (record { number = x.number; side = x.item.side; figure = f }) rest
 
-unfoldable pub figuresFrom : ReportInput → List (Numbered Source) → Figures
-figuresFrom input [] = figured []
-figuresFrom input (x ∷ xs) = withFigure x (sourceFigure input x.item) (figuresFrom input xs)
+unfoldable pub figures_from : ReportInput → List (Numbered Source) → Figures
+figures_from input [] = figured []
+figures_from input (x ∷ xs) = with_figure x (source_figure input x.item) (figures_from input xs)
 
 -- ---- sides and the reduction
 
-abbrev pub sideIndex : Side → ℕ
-sideIndex Project = 0
-sideIndex Leakage = 1
-sideIndex Baseline = 2
+abbrev pub side_index : Side → ℕ
+side_index Project = 0
+side_index Leakage = 1
+side_index Baseline = 2
 
-unfoldable pub ofSide : Side → List Figured → List Figured
-ofSide side fs = selected (λ (f : Figured). eqb (sideIndex f.side) (sideIndex side)) fs
+unfoldable pub of_side : Side → List Figured → List Figured
+of_side side fs = selected (λ (f : Figured). eqb (side_index f.side) (side_index side)) fs
 
 -- "its grams (sum of source figures), its tonnes (grams ÷ 1,000,000, rounded as the side) and its number of standing sources".
 pub record SideReport : Type 0 where
@@ -187,15 +187,15 @@ pub record SideReport : Type 0 where
   pub grams : ℕ
   pub sources : ℕ
 
-abbrev pub gramsIn : Figured → ℕ
-gramsIn f = f.figure.grams
+abbrev pub grams_in : Figured → ℕ
+grams_in f = f.figure.grams
 
-unfoldable pub sideReport : Side → List Figured → SideReport
-sideReport side fs =
+unfoldable pub side_report : Side → List Figured → SideReport
+side_report side fs =
     record {
-      tonnes = divided (direction side) (sum (map gramsIn (ofSide side fs))) 1000000;
-      grams = sum (map gramsIn (ofSide side fs));
-      sources = length (ofSide side fs);
+      tonnes = divided (direction side) (sum (map grams_in (of_side side fs))) 1000000;
+      grams = sum (map grams_in (of_side side fs));
+      sources = length (of_side side fs);
     }
 
 -- "then the reduction: baseline less project less leakage tonnes, signed".
@@ -208,13 +208,13 @@ pub record Report : Type 0 where
 unfoldable pub reduction : ℕ → ℕ → ℕ → ℤ
 reduction baseline project leakage = pos baseline -ℤ pos project -ℤ pos leakage
 
-unfoldable pub reportFrom : List Figured → Report
-reportFrom fs =
+unfoldable pub report_from : List Figured → Report
+report_from fs =
     record {
-      project = sideReport Project fs;
-      leakage = sideReport Leakage fs;
-      baseline = sideReport Baseline fs;
-      reduction = reduction (sideReport Baseline fs).tonnes (sideReport Project fs).tonnes (sideReport Leakage fs).tonnes;
+      project = side_report Project fs;
+      leakage = side_report Leakage fs;
+      baseline = side_report Baseline fs;
+      reduction = reduction (side_report Baseline fs).tonnes (side_report Project fs).tonnes (side_report Leakage fs).tonnes;
     }
 
 -- ---- the answer to a report
@@ -223,43 +223,43 @@ reportFrom fs =
 -- the answer to a report on a ledger that no list of calls leaves, on which the paper says nothing.
 pub data Reply : Type 0 where
   ok : Reply
-  refusedWith : ℕ → Reply
-  refusedAt : ℕ → ℕ → Reply
+  refused_with : ℕ → Reply
+  refused_at : ℕ → ℕ → Reply
   reported : Report → Reply
   damaged : Reply
 
 -- "After all sources, 13 a side above 1,000,000,000,000,000 grams."
-abbrev pub sideLimit : ℕ
-sideLimit = 1000000000000000
+abbrev pub side_limit : ℕ
+side_limit = 1000000000000000
 
-abbrev pub sideFits : SideReport → Bool
-sideFits s = leb s.grams sideLimit
+abbrev pub side_fits : SideReport → Bool
+side_fits s = leb s.grams side_limit
 
 abbrev pub all_fit : Report → Bool
-all_fit r = sideFits r.project && sideFits r.leakage && sideFits r.baseline
+all_fit r = side_fits r.project && side_fits r.leakage && side_fits r.baseline
 
-abbrev pub replyFrom : Figures → Reply
-replyFrom (declined n k) = refusedAt n k
-replyFrom (figured fs) = cond (all_fit (reportFrom fs)) (reported (reportFrom fs)) (refusedWith 13)
+abbrev pub reply_from : Figures → Reply
+reply_from (declined n k) = refused_at n k
+reply_from (figured fs) = cond (all_fit (report_from fs)) (reported (report_from fs)) (refused_with 13)
 
-unfoldable pub reportOf : ReportInput → Reply
-reportOf input = replyFrom (figuresFrom input (sourcesOf input))
+unfoldable pub report_of : ReportInput → Reply
+report_of input = reply_from (figures_from input (sources_of input))
 
 -- The answer to an entry or a drop.
 abbrev pub acknowledged : {A : Type 0} → Outcome A → Reply
-acknowledged (refused n) = refusedWith n
+acknowledged (refused n) = refused_with n
 acknowledged (given a) = ok
 
 -- ---- a report on records
 
 -- What the records of a ledger show.
-abbrev pub inputOfRecords : Grid → List PlantRecord → List SourceRecord → ReportInput
-inputOfRecords grid plants sources = record { grid = grid; plant = plantPlace plants; source = sourcePlace sources }
+abbrev pub input_of_records : Grid → List PlantRecord → List SourceRecord → ReportInput
+input_of_records grid plants sources = record { grid = grid; plant = plant_place plants; source = source_place sources }
 
 -- Whether everything that stands meets the limits that an accepted entry meets.
 unfoldable pub intact : ReportInput → Bool
-intact input = gridIntact input.grid && allIntact plantIntact input.plant 8 && allIntact sourceIntact input.source 32
+intact input = grid_intact input.grid && all_intact plant_intact input.plant 8 && all_intact source_intact input.source 32
 
 -- The answer to a report on what records show: `damaged` where something that stands is not what an accepted entry leaves.
-unfoldable pub checkedReportOf : ReportInput → Reply
-checkedReportOf input = cond (intact input) (reportOf input) damaged
+unfoldable pub checked_report_of : ReportInput → Reply
+checked_report_of input = cond (intact input) (report_of input) damaged

@@ -4,57 +4,57 @@
 
 ghost use Rattle.std.specs.Prelude.{◌≡◌, true, ◌&&◌, ◌+◌, ◌<◌, ◌≤◌, take};
 ghost use Rattle.std.proofs.Math.Option.{some};
-ghost use Rattle.emissions.specs.Answers.{factorMeaning};
-ghost use Rattle.emissions.specs.Factor.{siteNamed};
-ghost use Rattle.emissions.specs.Figure.{energyLimit};
-ghost use Rattle.emissions.specs.Grid.{gridIntact};
-ghost use Rattle.records.specs.Judging.{lastPlant, lastSource, linesLimit, supplyWithinLimits, lossMatches};
-ghost use Rattle.records.specs.Records.{sourcePlace};
+ghost use Rattle.emissions.specs.Answers.{factor_meaning};
+ghost use Rattle.emissions.specs.Factor.{site_named};
+ghost use Rattle.emissions.specs.Figure.{energy_limit};
+ghost use Rattle.emissions.specs.Grid.{grid_intact};
+ghost use Rattle.records.specs.Judging.{last_plant, last_source, lines_limit, supply_within_limits, loss_matches};
+ghost use Rattle.records.specs.Records.{source_place};
 ghost use Rattle.report.specs.Heat.{allocated};
-ghost use Rattle.report.specs.Report.{standing, comparesFactor, comparesLoss, checkedReportOf, inputOfRecords};
-ghost use Rattle.report.specs.Intact.{sourceIntact, plantsIntact, sourcesIntact};
-ghost use Rattle.report.specs.Answers.{sideMeaning, reportMeaning};
+ghost use Rattle.report.specs.Report.{standing, compares_factor, compares_loss, checked_report_of, input_of_records};
+ghost use Rattle.report.specs.Intact.{source_intact, plants_intact, sources_intact};
+ghost use Rattle.report.specs.Answers.{side_meaning, report_meaning};
 ghost use Rattle.report.specs.Steps.{
-  plantBound,
-  figureBound,
-  tonnesBound,
+  plant_bound,
+  figure_bound,
+  tonnes_bound,
   share,
   summed,
   ConsumptionWithin,
-  totalsWith,
-  totalsSummed,
-  noPlants,
-  sitePlus,
+  totals_with,
+  totals_summed,
+  no_plants,
+  site_plus,
   SiteWithin,
-  linesSummed,
+  lines_summed,
   LinesWithin,
-  electricityOf,
+  electricity_of,
   ElectricityWithin,
-  plantSummed,
+  plant_summed,
   PlantWithin,
   SitesOf,
-  columnFor,
-  rowFor,
+  column_for,
+  row_for,
   RowOf,
   TableOf,
   TableWithin,
   CaptiveWithin,
-  figureAt,
-  tableFigure,
-  figuresBy,
+  figure_at,
+  table_figure,
+  figures_by,
   parts,
-  figureMeaning,
+  figure_meaning,
   FigureWithin,
-  figureRefusal,
-  noSums,
-  withGrams,
+  figure_refusal,
+  no_sums,
+  with_grams,
   SideBounded,
   Bounded,
-  walkedOf,
+  walked_of,
   WalkedWithin,
-  sideFrom,
-  reductionOf,
-  reportedOf,
+  side_from,
+  reduction_of,
+  reported_of,
 };
 
 use emissions::{Consumption, EmissionsJudged, FactorJudged, Grid, Loss, LossJudged, Side, Supply};
@@ -139,7 +139,7 @@ enum FigureJudged {
 impl FigureJudged {
     // The number of the refusal, 0 where a figure was given.
     fn refusal(self) -> u8
-        ensures { result ≡ figureRefusal self }
+        ensures { result ≡ figure_refusal self }
     {
         match self {
             FigureJudged::Refused(number) => number,
@@ -196,7 +196,7 @@ pub enum Reported {
 
 // Whether a source with this supply counts in P and B.
 fn compares_factor(supply: Supply) -> bool
-    ensures { result ≡ comparesFactor supply }
+    ensures { result ≡ compares_factor supply }
 {
     match supply {
         Supply::Combined => true,
@@ -209,7 +209,7 @@ fn compares_factor(supply: Supply) -> bool
 
 // Whether a source with this supply counts in P' and B'.
 fn compares_loss(supply: Supply) -> bool
-    ensures { result ≡ comparesLoss supply }
+    ensures { result ≡ compares_loss supply }
 {
     match supply {
         Supply::Combined => true,
@@ -222,7 +222,7 @@ fn compares_loss(supply: Supply) -> bool
 
 // The consumption with a source, where it counts.
 fn with_share(sums: Consumption, side: Side, energy: u64, counts: bool) -> Consumption
-    requires { ConsumptionWithin lastSource sums × (energy ≤ energyLimit) }
+    requires { ConsumptionWithin last_source sums × (energy ≤ energy_limit) }
     ensures { result ≡ summed sums (share side energy counts) }
 {
     if counts {
@@ -247,8 +247,8 @@ fn with_share(sums: Consumption, side: Side, energy: u64, counts: bool) -> Consu
 
 // The totals with one more source.
 fn with_source(totals: Totals, source: Source) -> Totals
-    requires { ConsumptionWithin lastSource totals.factor × ConsumptionWithin lastSource totals.loss × (source.energy ≤ energyLimit) }
-    ensures { result ≡ totalsWith totals (some source) }
+    requires { ConsumptionWithin last_source totals.factor × ConsumptionWithin last_source totals.loss × (source.energy ≤ energy_limit) }
+    ensures { result ≡ totals_with totals (some source) }
 {
     let supply = source.supply;
     let side = source.side;
@@ -261,7 +261,7 @@ fn with_source(totals: Totals, source: Source) -> Totals
 // Whether the site that a supply names, if it names one, is in range and the loss goes with the supply: by one
 // match, since every source is tested in every report.
 fn is_matched_in_range(supply: Supply, loss: Loss) -> bool
-    ensures { result ≡ (supplyWithinLimits supply && lossMatches supply loss) }
+    ensures { result ≡ (supply_within_limits supply && loss_matches supply loss) }
 {
     let none = records::is_nothing(loss);
     match supply {
@@ -275,7 +275,7 @@ fn is_matched_in_range(supply: Supply, loss: Loss) -> bool
 
 // Whether a source is such as an entry leaves: within the limits of an accepted entry.
 fn source_is_intact(source: Source) -> bool
-    ensures { result ≡ sourceIntact (some source) }
+    ensures { result ≡ source_intact (some source) }
 {
     let supply = source.supply;
     let loss = source.loss;
@@ -289,7 +289,7 @@ fn source_is_intact(source: Source) -> bool
 
 // P, B, P' and B' of the sources that stand, in one pass.
 fn totals_of(sources: [SourceRecord; Source::PLACES]) -> TotalsSummed
-    ensures { result ≡ totalsSummed sources }
+    ensures { result ≡ totals_summed sources }
 {
     let none = Consumption {
         project: 0,
@@ -318,7 +318,7 @@ fn totals_of(sources: [SourceRecord; Source::PLACES]) -> TotalsSummed
 
 impl SiteSums {
     fn empty() -> SiteSums
-        ensures { result ≡ noPlants }
+        ensures { result ≡ no_plants }
     {
         SiteSums {
             up: 0,
@@ -329,8 +329,8 @@ impl SiteSums {
 
     // With one more plant.
     fn plus(self, plant: SiteSums) -> SiteSums
-        requires { SiteWithin lastPlant self × SiteWithin 1 plant }
-        ensures { result ≡ sitePlus self plant }
+        requires { SiteWithin last_plant self × SiteWithin 1 plant }
+        ensures { result ≡ site_plus self plant }
     {
         SiteSums {
             up: self.up + plant.up,
@@ -343,8 +343,8 @@ impl SiteSums {
 // The milligrams of fuel lines, each rounded both ways. A line that is refused is out of its limits, so that no
 // other pass has to test them.
 fn lines_summed(lines: [FuelLine; Plant::LINE_PLACES], count: usize) -> LinesSummed
-    requires { count ≤ linesLimit }
-    ensures summed { result ≡ linesSummed (take count lines) }
+    requires { count ≤ lines_limit }
+    ensures summed { result ≡ lines_summed (take count lines) }
     ensures bound { LinesWithin result }
 {
     let mut up: u64 = 0;
@@ -371,7 +371,7 @@ fn lines_summed(lines: [FuelLine; Plant::LINE_PLACES], count: usize) -> LinesSum
 // The milligrams of a plant with heat that count for its electricity: the fuel lines' emission factor, by their
 // energy, times the energy that is no heat. Both products fit 64 bits because the milligrams of four lines do.
 fn allocate(energy: u64, heat: u64, milligrams: u64) -> u64
-    requires { (0 < heat) × (heat ≤ energy) × (milligrams ≤ plantBound) }
+    requires { (0 < heat) × (heat ≤ energy) × (milligrams ≤ plant_bound) }
     ensures { (result ≡ allocated energy heat milligrams) × (result ≤ milligrams) }
 {
     let factor = rounding::divide(Direction::Down, milligrams * 1_000, energy);
@@ -380,8 +380,8 @@ fn allocate(energy: u64, heat: u64, milligrams: u64) -> u64
 
 // What counts of a plant's milligrams, rounded down, for baseline (document 02, wish 5).
 fn baseline_milligrams(plant: Plant, milligrams: u64) -> Electricity
-    requires { milligrams ≤ plantBound }
-    ensures counted { result ≡ electricityOf plant milligrams }
+    requires { milligrams ≤ plant_bound }
+    ensures counted { result ≡ electricity_of plant milligrams }
     ensures bound { ElectricityWithin result }
 {
     let heat = plant.heat_judged();
@@ -396,7 +396,7 @@ fn baseline_milligrams(plant: Plant, milligrams: u64) -> Electricity
 
 // What a plant adds at its site.
 fn plant_summed(plant: Plant) -> PlantSummed
-    ensures summed { result ≡ plantSummed plant }
+    ensures summed { result ≡ plant_summed plant }
     ensures bound { PlantWithin result }
 {
     if plant.site > Plant::SITE_LIMIT {
@@ -422,7 +422,7 @@ fn plant_summed(plant: Plant) -> PlantSummed
 
 // The sums of the plants at each site, in one pass.
 fn site_sums(plants: [PlantRecord; Plant::PLACES]) -> SitesSummed
-    ensures intact { result.intact ≡ plantsIntact plants }
+    ensures intact { result.intact ≡ plants_intact plants }
     ensures sites { SitesOf plants result }
 {
     let none = SiteSums::empty();
@@ -474,7 +474,7 @@ fn site_factors(sites: [SiteSums; Plant::SITE_PLACES]) -> [[FactorJudged; 2]; Pl
 // The row of the table for a supply: that of the site that it names. Where it names none, the first is as good as
 // any, because its factor is not asked for.
 fn row_for(supply: Supply) -> usize
-    ensures { result ≡ rowFor (siteNamed supply) }
+    ensures { result ≡ row_for (site_named supply) }
 {
     match supply {
         Supply::Combined => 0,
@@ -487,7 +487,7 @@ fn row_for(supply: Supply) -> usize
 
 // The column of the table for a direction.
 fn column_for(direction: Direction) -> usize
-    ensures { result ≡ columnFor direction }
+    ensures { result ≡ column_for direction }
 {
     match direction {
         Direction::Up => 0,
@@ -498,8 +498,8 @@ fn column_for(direction: Direction) -> usize
 // The figure of a source: its factor, then its loss, then its grams, by the captive factor of the site that it
 // names. The figures of an intact source are within the limits at which grams are worked out.
 fn source_figure(grid: Grid, captive: FactorJudged, totals: Totals, source: Source) -> FigureJudged
-    requires { (gridIntact grid ≡ true) × CaptiveWithin (factorMeaning captive) × (sourceIntact (some source) ≡ true) }
-    ensures figure { figureMeaning result ≡ parts (figureAt grid (λ S. factorMeaning captive) totals source) }
+    requires { (grid_intact grid ≡ true) × CaptiveWithin (factor_meaning captive) × (source_intact (some source) ≡ true) }
+    ensures figure { figure_meaning result ≡ parts (figure_at grid (λ S. factor_meaning captive) totals source) }
     ensures bound { FigureWithin result }
 {
     let side = source.side;
@@ -540,7 +540,7 @@ impl SideSum {
 
     // One more source, with so many grams.
     fn plus(self, grams: u64) -> SideSum
-        requires { SideBounded lastSource self × (grams ≤ figureBound) }
+        requires { SideBounded last_source self × (grams ≤ figure_bound) }
         ensures { result ≡ record { grams = self.grams + grams; sources = self.sources + 1 } }
     {
         SideSum {
@@ -552,7 +552,7 @@ impl SideSum {
 
 impl Sums {
     fn empty() -> Sums
-        ensures { result ≡ noSums }
+        ensures { result ≡ no_sums }
     {
         Sums {
             project: SideSum::empty(),
@@ -563,8 +563,8 @@ impl Sums {
 
     // One more source on a side.
     fn plus(self, side: Side, grams: u64) -> Sums
-        requires { Bounded lastSource self × (grams ≤ figureBound) }
-        ensures { result ≡ withGrams self side grams }
+        requires { Bounded last_source self × (grams ≤ figure_bound) }
+        ensures { result ≡ with_grams self side grams }
     {
         let project = self.project;
         let leakage = self.leakage;
@@ -597,8 +597,8 @@ fn walk(
     totals: Totals,
     sources: [SourceRecord; Source::PLACES],
 ) -> Walked
-    requires { (gridIntact grid ≡ true) × TableWithin factors × (sourcesIntact sources ≡ true) }
-    ensures walked { result ≡ walkedOf (figuresBy (tableFigure grid factors totals) (standing (sourcePlace sources) 0 32)) }
+    requires { (grid_intact grid ≡ true) × TableWithin factors × (sources_intact sources ≡ true) }
+    ensures walked { result ≡ walked_of (figures_by (table_figure grid factors totals) (standing (source_place sources) 0 32)) }
     ensures bound { WalkedWithin result }
 {
     let mut sums = Sums::empty();
@@ -624,8 +624,8 @@ fn walk(
 impl SideSum {
     // The side of the report, its tonnes rounded as the side.
     fn reported(self, side: Side) -> SideReport
-        requires { SideBounded (lastSource + 1) self }
-        ensures { sideMeaning result ≡ sideFrom side self }
+        requires { SideBounded (last_source + 1) self }
+        ensures { side_meaning result ≡ side_from side self }
     {
         SideReport {
             tonnes: rounding::divide(side.direction(), self.grams, 1_000_000),
@@ -637,8 +637,8 @@ impl SideSum {
 
 // Baseline less project less leakage tonnes.
 fn reduction(baseline: u64, project: u64, leakage: u64) -> i64
-    requires { (baseline ≤ tonnesBound) × (project ≤ tonnesBound) × (leakage ≤ tonnesBound) }
-    ensures { result ≡ reductionOf baseline project leakage }
+    requires { (baseline ≤ tonnes_bound) × (project ≤ tonnes_bound) × (leakage ≤ tonnes_bound) }
+    ensures { result ≡ reduction_of baseline project leakage }
 {
     baseline as i64 - project as i64 - leakage as i64
 }
@@ -646,8 +646,8 @@ fn reduction(baseline: u64, project: u64, leakage: u64) -> i64
 impl Sums {
     // The report, or refusal 13 for a side above 1,000,000,000,000,000 grams.
     fn reported(self) -> Reported
-        requires { Bounded (lastSource + 1) self }
-        ensures { reportMeaning result ≡ reportedOf self }
+        requires { Bounded (last_source + 1) self }
+        ensures { report_meaning result ≡ reported_of self }
     {
         let project = self.project;
         let leakage = self.leakage;
@@ -680,7 +680,7 @@ pub fn report_of(
     plants: [PlantRecord; Plant::PLACES],
     sources: [SourceRecord; Source::PLACES],
 ) -> Reported
-    ensures { reportMeaning result ≡ checkedReportOf (inputOfRecords grid plants sources) }
+    ensures { report_meaning result ≡ checked_report_of (input_of_records grid plants sources) }
 {
     if grid.is_intact() == false {
         return Reported::Damaged;

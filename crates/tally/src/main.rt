@@ -1,6 +1,6 @@
 // Reads standard input to its end and prints the answers to its lines.
 ghost use Rattle.std.specs.Prelude.{◌≡◌, ◌+◌, ◌*◌, length};
-ghost use Rattle.answers.specs.Input.{inputLimit, bytesForEach};
+ghost use Rattle.answers.specs.Input.{input_limit, bytes_for_each};
 
 use answers::Written;
 use libc::{STDIN_FILENO, STDOUT_FILENO};
@@ -13,14 +13,14 @@ const OUTPUT_BYTES: usize = Written::BYTES_FOR_EACH * Written::INPUT_LIMIT;
 // Zeros for an input. Only the length is stated, here and below, so that the array need not be computed in a
 // proof.
 fn input_buffer() -> [u8; INPUT_BYTES]
-    ensures { inputLimit + 1 ≡ length result }
+    ensures { input_limit + 1 ≡ length result }
 {
     [0; INPUT_BYTES]
 }
 
 // Zeros for an output.
 fn output_buffer() -> [u8; OUTPUT_BYTES]
-    ensures { bytesForEach * inputLimit ≡ length result }
+    ensures { bytes_for_each * input_limit ≡ length result }
 {
     [0; OUTPUT_BYTES]
 }

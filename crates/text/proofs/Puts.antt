@@ -4,47 +4,47 @@ use mathlib.Core.List.{List, [], ◌∷◌, ◌++◌}
 use Prim.Native.Nat.{ℕ, ◌+◌, ◌≤◌}
 use native.Mathlib.Omega.{arith}
 use lib.ListN.{length, length-append, take-append-drop}
-use Rattle.text.specs.Buffer.{put_at, afterPut}
-use Rattle.text.specs.Parts.{Placed, placed, put, putParts, joinedText}
+use Rattle.text.specs.Buffer.{put_at, after_put}
+use Rattle.text.specs.Parts.{Placed, placed, put, put_parts, joined_text}
 use Rattle.text.proofs.Buffer.{put-fits, after-fits, put-length, put-run}
 
 -- What a put ensures of the place and the buffer is one step.
-pub put_step : (d : List ℕ) (at : ℕ) (w : List ℕ) {d' : List ℕ} {r : ℕ} → (r ≡ afterPut d at w) × (d' ≡ put_at d at w)
+pub put_step : (d : List ℕ) (at : ℕ) (w : List ℕ) {d' : List ℕ} {r : ℕ} → (r ≡ after_put d at w) × (d' ≡ put_at d at w)
     → placed d' r ≡ put (placed d at) w
 put_step d at w e = λ x. record { buffer = e.1 x; next = e.0 x }
 
 -- And a step before others.
 pub put_first : (d : List ℕ) (at : ℕ) (w : List ℕ) (ws : List (List ℕ)) {d' : List ℕ} {r : ℕ} {p : Placed}
-    → (r ≡ afterPut d at w) × (d' ≡ put_at d at w) → p ≡ putParts (placed d' r) ws → p ≡ putParts (placed d at) (w ∷ ws)
-unfolding putParts
-put_first d at w ws e f = f ∙ ap (λ (q : Placed). putParts q ws) (put_step d at w e)
+    → (r ≡ after_put d at w) × (d' ≡ put_at d at w) → p ≡ put_parts (placed d' r) ws → p ≡ put_parts (placed d at) (w ∷ ws)
+unfolding put_parts
+put_first d at w ws e f = f ∙ ap (λ (q : Placed). put_parts q ws) (put_step d at w e)
 
-pub put_last : (p : Placed) → p ≡ putParts p []
-unfolding putParts
+pub put_last : (p : Placed) → p ≡ put_parts p []
+unfolding put_parts
 put_last p = refl
 
-pub put-append : (p : Placed) (a b : List (List ℕ)) → putParts p (a ++ b) ≡ putParts (putParts p a) b
-unfolding putParts
+pub put-append : (p : Placed) (a b : List (List ℕ)) → put_parts p (a ++ b) ≡ put_parts (put_parts p a) b
+unfolding put_parts
 put-append p [] b = refl
 put-append p (w ∷ a) b = put-append (put p w) a b
 
 -- A run before others.
-pub put_all : (p : Placed) (a b : List (List ℕ)) {q r : Placed} → q ≡ putParts p a → r ≡ putParts q b → r ≡ putParts p (a ++ b)
-put_all p a b e f = f ∙ ap (λ (s : Placed). putParts s b) e ∙ sym (put-append p a b)
+pub put_all : (p : Placed) (a b : List (List ℕ)) {q r : Placed} → q ≡ put_parts p a → r ≡ put_parts q b → r ≡ put_parts p (a ++ b)
+put_all p a b e f = f ∙ ap (λ (s : Placed). put_parts s b) e ∙ sym (put-append p a b)
 
-pub parts-length : (p : Placed) (ws : List (List ℕ)) → length (putParts p ws).buffer ≡ length p.buffer
-unfolding putParts
+pub parts-length : (p : Placed) (ws : List (List ℕ)) → length (put_parts p ws).buffer ≡ length p.buffer
+unfolding put_parts
 parts-length p [] = refl
 parts-length p (w ∷ ws) = parts-length (put p w) ws ∙ put-length p.buffer p.next w
 
 -- ---- how long the parts are as one text
 
-pub joined-more : (w : List ℕ) (ws : List (List ℕ)) → length (joinedText (w ∷ ws)) ≡ length w + length (joinedText ws)
-unfolding joinedText
-joined-more w ws = length-append w (joinedText ws)
+pub joined-more : (w : List ℕ) (ws : List (List ℕ)) → length (joined_text (w ∷ ws)) ≡ length w + length (joined_text ws)
+unfolding joined_text
+joined-more w ws = length-append w (joined_text ws)
 
-pub joined-none : length (joinedText []) ≡ 0
-unfolding joinedText
+pub joined-none : length (joined_text []) ≡ 0
+unfolding joined_text
 joined-none = refl
 
 -- ---- texts that fit
@@ -60,27 +60,27 @@ module _ (d : List ℕ) (at : ℕ) where
   put_two a b h =
       let l = length-append a b in
       let f = after-fits d at a (omega arith) in
-      let g = after-fits (put_at d at a) (afterPut d at a) b (omega (arith, put-length d at a)) in
+      let g = after-fits (put_at d at a) (after_put d at a) b (omega (arith, put-length d at a)) in
       let e = put-run d at a b (omega arith) in
       put_step d at (a ++ b) e
 
 -- Parts that fit are one text.
-pub parts-text : (d : List ℕ) (at : ℕ) (ws : List (List ℕ)) → at + length (joinedText ws) ≤ length d
-    → putParts (placed d at) ws ≡ put (placed d at) (joinedText ws)
-unfolding putParts joinedText
+pub parts-text : (d : List ℕ) (at : ℕ) (ws : List (List ℕ)) → at + length (joined_text ws) ≤ length d
+    → put_parts (placed d at) ws ≡ put (placed d at) (joined_text ws)
+unfolding put_parts joined_text
 parts-text d at [] h = sym (put-nothing d at (omega arith))
 parts-text d at (w ∷ ws) h =
-    let l = length-append w (joinedText ws) in
+    let l = length-append w (joined_text ws) in
     let f = after-fits d at w (omega arith) in
-    parts-text (put_at d at w) (afterPut d at w) ws (omega (arith, put-length d at w)) ∙ put_two d at w (joinedText ws) h
+    parts-text (put_at d at w) (after_put d at w) ws (omega (arith, put-length d at w)) ∙ put_two d at w (joined_text ws) h
 
 -- After parts of a text are put, the rest gives what the whole gives, and fits.
 pub put-part : (d : List ℕ) (at : ℕ) (ws : List (List ℕ)) (rest : List ℕ) {d' : List ℕ} {next : ℕ}
-    → at + length (joinedText ws ++ rest) ≤ length d → placed d' next ≡ putParts (placed d at) ws
-    → (put (placed d' next) rest ≡ put (placed d at) (joinedText ws ++ rest)) × (next + length rest ≤ length d')
+    → at + length (joined_text ws ++ rest) ≤ length d → placed d' next ≡ put_parts (placed d at) ws
+    → (put (placed d' next) rest ≡ put (placed d at) (joined_text ws ++ rest)) × (next + length rest ≤ length d')
 put-part d at ws rest {d'} {next} h e =
-    let l = length-append (joinedText ws) rest in
-    let p : placed d' next ≡ put (placed d at) (joinedText ws) = e ∙ parts-text d at ws (omega arith) in
-    let n : next ≡ at + length (joinedText ws) = ap (λ (q : Placed). q.next) p ∙ after-fits d at (joinedText ws) (omega arith) in
-    let k : length d' ≡ length d = ap (λ (q : Placed). length q.buffer) p ∙ put-length d at (joinedText ws) in
-    (ap (λ (q : Placed). put q rest) p ∙ put_two d at (joinedText ws) rest h, omega arith)
+    let l = length-append (joined_text ws) rest in
+    let p : placed d' next ≡ put (placed d at) (joined_text ws) = e ∙ parts-text d at ws (omega arith) in
+    let n : next ≡ at + length (joined_text ws) = ap (λ (q : Placed). q.next) p ∙ after-fits d at (joined_text ws) (omega arith) in
+    let k : length d' ≡ length d = ap (λ (q : Placed). length q.buffer) p ∙ put-length d at (joined_text ws) in
+    (ap (λ (q : Placed). put q rest) p ∙ put_two d at (joined_text ws) rest h, omega arith)

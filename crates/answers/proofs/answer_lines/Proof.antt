@@ -7,18 +7,18 @@ use Prim.Native.Nat.{ℕ, ◌+◌, ◌*◌, ◌-◌, ◌≤◌}
 use native.Mathlib.Omega.{arith}
 use lib.ListN.{length, take, drop}
 use borrow.Author.Tests.{le-leb}
-use Rattle.text.specs.Parts.{Placed, placed, put, putParts}
+use Rattle.text.specs.Parts.{Placed, placed, put, put_parts}
 use Rattle.text.proofs.Buffer.{after-fits}
 use Rattle.text.proofs.Puts.{put-nothing, put-part}
-use Rattle.records.specs.Records.{noPlant, noSource}
+use Rattle.records.specs.Records.{no_plant, no_source}
 use Rattle.report.specs.Report.{Reply}
-use Rattle.forms.specs.Calls.{lineCall}
-use Rattle.answers.specs.Answers.{replyParts}
-use Rattle.answers.specs.Input.{lineReply, output, needed}
+use Rattle.forms.specs.Calls.{line_call}
+use Rattle.answers.specs.Answers.{reply_parts}
+use Rattle.answers.specs.Input.{line_reply, output, needed}
 use Rattle.answers.proofs.Forms.{read-steps, read-replies}
 use Rattle.answers.proofs.Lines.{line-fits}
 use Rattle.answers.proofs.Owner.{Answered, no-form-answered, grid-answered, plant-answered, source-answered, report-answered}
-use Rattle.answers.proofs.Replies.{output-line-by-line, textFrom, text_at, text-past}
+use Rattle.answers.proofs.Replies.{output-line-by-line, text_from, text_at, text-past}
 use Rattle.answers.proofs.Lengths.{output-fits}
 use Rattle.answers.proofs.answer_lines.Statement.{statement}
 use Rattle.answers.proofs.answer_lines.Tie as tie
@@ -30,8 +30,8 @@ within input d h k =
 
 abbrev invariant-loop : tie.invariant-loop
 invariant-loop input buffer₀ ledger₀ at₀ next₀ buffer ledger at next =
-    (put (placed buffer next) (textFrom ledger input at) ≡ put (placed buffer₀ 0) (output input))
-    × (next + length (textFrom ledger input at) ≤ length buffer)
+    (put (placed buffer next) (text_from ledger input at) ≡ put (placed buffer₀ 0) (output input))
+    × (next + length (text_from ledger input at) ≤ length buffer)
     × (length buffer ≡ length buffer₀)
 
 abbrev decreases-loop : tie.decreases-loop
@@ -44,7 +44,7 @@ loop-holds : tie.Need-loop-init invariant-loop decreases-loop
 loop-holds c =
     let s = c.before.before.before in
     let input = s.args.input.now in
-    let t : output input ≡ textFrom c.new.result input 0 = output-line-by-line input s.requires.0 ∙ ap (λ l. textFrom l input 0) (sym c.new.ensures) in
+    let t : output input ≡ text_from c.new.result input 0 = output-line-by-line input s.requires.0 ∙ ap (λ l. text_from l input 0) (sym c.new.ensures) in
     (rw t, omega (arith, within input s.args.buffer.now s.requires.0 s.requires.1, ap length t), refl)
 
 line-end-requires : tie.Need-line-end-requires invariant-loop decreases-loop
@@ -143,7 +143,7 @@ loop-less c = omega arith
 -- Where the kinds of lines meet again, the ledger and the reply are those of the line that was read.
 met : (c : tie.At-match-branch invariant-loop decreases-loop)
     → Answered c.before.before.before.before.before.loop.ledger c.before.read-line.result c.match.ledger c.match.reply
-unfolding noPlant noSource
+unfolding no_plant no_source
 met c =
     let L = c.before.before.before.before.before.loop.ledger in
     let ln = c.before.read-line.result in
@@ -171,8 +171,8 @@ loop-again c =
     let asked = r.read-line.ensures in
     let t = text_at l.ledger input l.at e.line-end.result e.before.loop-test.true e.line-end.ensures in
     let told = done.told ∙ read-replies l.ledger line _ _ asked in
-    let put_all_lem = p.put-reply.ensures ∙ ap (λ (x : Reply). putParts (placed l.buffer l.next) (replyParts x)) told in
-    let left = put-part l.buffer l.next (replyParts (lineReply l.ledger (lineCall line))) _ (rw t at l.invariant.1) put_all_lem in
+    let put_all_lem = p.put-reply.ensures ∙ ap (λ (x : Reply). put_parts (placed l.buffer l.next) (reply_parts x)) told in
+    let left = put-part l.buffer l.next (reply_parts (line_reply l.ledger (line_call line))) _ (rw t at l.invariant.1) put_all_lem in
     rw (done.ledger ∙ read-steps l.ledger line _ _ asked)
     (left.0 ∙ ap (put (placed l.buffer l.next)) (sym t) ∙ l.invariant.0, left.1, p.put-reply.auto.0 ∙ l.invariant.2)
 

@@ -3,14 +3,14 @@ use mathlib.Core.Path.{◌≡◌, ap}
 use Prim.Native.Nat.{◌+◌, ◌-◌, ◌≤◌}
 use native.Mathlib.Omega.{arith}
 use lib.ListN.{length, drop}
-use Rattle.answers.specs.Steps.{firstLine}
+use Rattle.answers.specs.Steps.{first_line}
 use Rattle.answers.proofs.Lines.{line-here, line-more, line-none}
 use Rattle.answers.proofs.line_end.Statement.{statement}
 use Rattle.answers.proofs.line_end.Tie as tie
 
 abbrev invariant-loop : tie.invariant-loop
 invariant-loop input at i₀ i =
-    (at ≤ i) × (i ≤ length input) × (at + length (firstLine (drop at input)) ≡ i + length (firstLine (drop i input)))
+    (at ≤ i) × (i ≤ length input) × (at + length (first_line (drop at input)) ≡ i + length (first_line (drop i input)))
 
 abbrev decreases-loop : tie.decreases-loop
 decreases-loop input at i₀ i = length input - i

@@ -3,9 +3,9 @@ use borrow.Author.Rules.{rules}
 use mathlib.Core.Path.{sym, ap, ◌∙◌}
 use Rattle.text.proofs.Templates.{template-read}
 use Rattle.forms.specs.Form.{grid}
-use Rattle.forms.specs.Reading.{gridIn}
+use Rattle.forms.specs.Reading.{grid_in}
 use Rattle.forms.specs.Calls.{call_of, fitted}
-use Rattle.forms.specs.Steps.{kindMeaning}
+use Rattle.forms.specs.Steps.{kind_meaning}
 use Rattle.forms.proofs.Lines.{grid-read, nothing_read}
 use Rattle.forms.proofs.read_grid.Statement.{statement}
 use Rattle.forms.proofs.read_grid.Tie as tie
@@ -26,10 +26,10 @@ no-form-requires : tie.Need-no-form-requires
 no-form-requires c κs = search rules
 
 returns : tie.Need-returns
-unfolding gridIn
+unfolding grid_in
 returns c =
     let s = c.before.before.before.before.before.before.args.line.now in
-    nothing_read s (gridIn s) c.no-form.ensures (rw (template-read _ s 0 c.before.before.before.read-template.ensures c.before.enum_told.given.1))
+    nothing_read s (grid_in s) c.no-form.ensures (rw (template-read _ s 0 c.before.before.before.read-template.ensures c.before.enum_told.given.1))
 
 read-kind-requires : tie.Need-read-kind-requires
 read-kind-requires c κs = search rules
@@ -44,13 +44,13 @@ no-form-requires-2 : tie.Need-no-form-requires-2
 no-form-requires-2 c κs = search rules
 
 returns-2 : tie.Need-returns-2
-unfolding gridIn
+unfolding grid_in
 returns-2 c =
     let s = c.before.before.before.before.before.before.before.before.before.before.args.line.now in
-    nothing_read s (gridIn s) c.no-form2.ensures
+    nothing_read s (grid_in s) c.no-form2.ensures
     (rw (
       template-read _ s 0 c.before.before.before.before.before.before.before.read-template.ensures c.before.before.before.before.before.numbers.given.1,
-      sym c.before.before.before.read-kind.ensures ∙ ap (kindMeaning s) c.before.enum-told2.given.1,
+      sym c.before.before.before.read-kind.ensures ∙ ap (kind_meaning s) c.before.enum-told2.given.1,
     ))
 
 word-field-requires : tie.Need-word-field-requires
@@ -60,15 +60,15 @@ grid-line-requires : tie.Need-grid-line-requires
 grid-line-requires c κs = search rules
 
 returns-3 : tie.Need-returns-3
-unfolding gridIn call_of fitted
+unfolding grid_in call_of fitted
 returns-3 c =
     let s = c.before.before.before.before.before.before.before.before.before.before.before.before.args.line.now in
     let n = c.before.before.before.before.before.before.before.numbers.given.0.0 in
     let k = c.before.before.before.kind.given.0 in
-    grid-read s (gridIn s) (grid n.first k.0) _ k.1.0 c.grid-line.ensures
+    grid-read s (grid_in s) (grid n.first k.0) _ k.1.0 c.grid-line.ensures
     (rw (
       template-read _ s 0 c.before.before.before.before.before.before.before.before.before.read-template.ensures c.before.before.before.before.before.before.before.numbers.given.1,
-      sym c.before.before.before.before.before.read-kind.ensures ∙ ap (kindMeaning s) c.before.before.before.kind.given.1,
+      sym c.before.before.before.before.before.read-kind.ensures ∙ ap (kind_meaning s) c.before.before.before.kind.given.1,
     ))
     (rw c.before.word-field.ensures)
 

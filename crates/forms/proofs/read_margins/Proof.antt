@@ -4,13 +4,13 @@ use mathlib.Core.Path.{◌≡◌, sym, ap, ◌∙◌}
 use mathlib.Core.List.{List}
 use Prim.Native.Nat.{ℕ}
 use lib.ListN.{drop}
-use Rattle.text.specs.Template.{templateIn}
+use Rattle.text.specs.Template.{template_in}
 use Rattle.text.proofs.Templates.{template-read}
-use Rattle.forms.specs.Templates.{marginsOpening, weightsPart}
+use Rattle.forms.specs.Templates.{margins_opening, weights_part}
 use Rattle.forms.specs.Form.{margins}
-use Rattle.forms.specs.Reading.{marginsIn}
+use Rattle.forms.specs.Reading.{margins_in}
 use Rattle.forms.specs.Calls.{call_of, fitted}
-use Rattle.forms.specs.Steps.{found, kindMeaning}
+use Rattle.forms.specs.Steps.{found, kind_meaning}
 use Rattle.forms.proofs.Lines.{grid-read, nothing_read}
 use Rattle.forms.proofs.read_margins.Statement.{statement}
 use Rattle.forms.proofs.read_margins.Tie as tie
@@ -34,14 +34,14 @@ no-form-requires : tie.Need-no-form-requires
 no-form-requires c κs = search rules
 
 returns : tie.Need-returns
-unfolding marginsIn
+unfolding margins_in
 returns c =
     let s = text c.before.before.before.before.before.before in
-    nothing_read s (marginsIn s) c.no-form.ensures (rw (template-read _ s 0 c.before.before.before.read-template.ensures c.before.enum_told.given.1))
+    nothing_read s (margins_in s) c.no-form.ensures (rw (template-read _ s 0 c.before.before.before.read-template.ensures c.before.enum_told.given.1))
 
 -- The two margins, and then the weights.
 figures-read : (p : tie.After-figures) → let s = text p.before.before.before.before.before in let n = p.figures.given.0 in
-    templateIn marginsOpening s ≡ found s n.0 n.1.0
+    template_in margins_opening s ≡ found s n.0 n.1.0
 figures-read p = template-read _ (text p.before.before.before.before.before) 0 p.before.before.read-template.ensures p.figures.given.1
 
 slice-aggregate-read-template-2 : tie.Need-slice-aggregate-read-template-2
@@ -60,17 +60,17 @@ no-form-requires-2 : tie.Need-no-form-requires-2
 no-form-requires-2 c κs = search rules
 
 returns-2 : tie.Need-returns-2
-unfolding marginsIn
+unfolding margins_in
 returns-2 c =
     let s = text c.before.before.before.before.before.before.before.before.before.before.before in
-    nothing_read s (marginsIn s) c.no-form2.ensures
+    nothing_read s (margins_in s) c.no-form2.ensures
     (rw (
       figures-read c.before.before.before.before.before.before,
       template-read _ s _ c.before.before.before.read-template2.ensures c.before.enum-told2.given.1,
     ))
 
 weights-read : (p : tie.After-percents) → let s = text p.before.before.before.before.before.before.before.before.before.before in let n = p.percents.given.0 in
-    templateIn weightsPart (drop p.before.before.before.before.before.figures.given.0.1.0 s) ≡ found s n.0 n.1.0
+    template_in weights_part (drop p.before.before.before.before.before.figures.given.0.1.0 s) ≡ found s n.0 n.1.0
 weights-read p = template-read _ (text p.before.before.before.before.before.before.before.before.before.before) _ p.before.before.read-template2.ensures p.percents.given.1
 
 read-kind-requires : tie.Need-read-kind-requires
@@ -86,14 +86,14 @@ no-form-requires-3 : tie.Need-no-form-requires-3
 no-form-requires-3 c κs = search rules
 
 returns-3 : tie.Need-returns-3
-unfolding marginsIn
+unfolding margins_in
 returns-3 c =
     let s = text c.before.before.before.before.before.before.before.before.before.before.before.before.before.before.before in
-    nothing_read s (marginsIn s) c.no-form3.ensures
+    nothing_read s (margins_in s) c.no-form3.ensures
     (rw (
       figures-read c.before.before.before.before.before.before.before.before.before.before,
       weights-read c.before.before.before.before.before,
-      sym c.before.before.before.read-kind.ensures ∙ ap (kindMeaning s) c.before.enum-told3.given.1,
+      sym c.before.before.before.read-kind.ensures ∙ ap (kind_meaning s) c.before.enum-told3.given.1,
     ))
 
 byte-field-requires : tie.Need-byte-field-requires
@@ -112,17 +112,17 @@ grid-line-requires : tie.Need-grid-line-requires
 grid-line-requires c κs = search rules
 
 returns-4 : tie.Need-returns-4
-unfolding marginsIn call_of fitted
+unfolding margins_in call_of fitted
 returns-4 c =
     let s = text c.before.before.before.before.before.before.before.before.before.before.before.before.before.before.before.before.before.before.before.before in
     let m = c.before.before.before.before.before.before.before.before.before.before.before.before.before.before.before.figures.given.0.0 in
     let w = c.before.before.before.before.before.before.before.before.before.before.percents.given.0.0 in
     let k = c.before.before.before.before.before.before.kind.given.0 in
-    grid-read s (marginsIn s) (margins m.first m.second w.first w.second k.0) _ k.1.0 c.grid-line.ensures
+    grid-read s (margins_in s) (margins m.first m.second w.first w.second k.0) _ k.1.0 c.grid-line.ensures
     (rw (
       figures-read c.before.before.before.before.before.before.before.before.before.before.before.before.before.before.before,
       weights-read c.before.before.before.before.before.before.before.before.before.before,
-      sym c.before.before.before.before.before.before.before.before.read-kind.ensures ∙ ap (kindMeaning s) c.before.before.before.before.before.before.kind.given.1,
+      sym c.before.before.before.before.before.before.before.before.read-kind.ensures ∙ ap (kind_meaning s) c.before.before.before.before.before.before.kind.given.1,
     ))
     (rw (c.before.before.before.before.byte-field.ensures, c.before.before.before.byte-field2.ensures, c.before.before.word-field.ensures, c.before.word-field2.ensures))
 

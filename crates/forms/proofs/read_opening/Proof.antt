@@ -3,7 +3,7 @@ use borrow.Author.Rules.{rules}
 use mathlib.Core.Path.{◌≡◌, sym, ◌∙◌}
 use mathlib.Core.List.{List}
 use Prim.Native.Nat.{ℕ}
-use Rattle.forms.specs.Reading.{or_else, one_of, gridIn, marginsIn, plantIn, sourceIn, others, openingIn}
+use Rattle.forms.specs.Reading.{or_else, one_of, grid_in, margins_in, plant_in, source_in, others, opening_in}
 use Rattle.forms.proofs.Lines.{read_first, read_next}
 use Rattle.forms.proofs.read_opening.Statement.{statement}
 use Rattle.forms.proofs.read_opening.Tie as tie
@@ -18,18 +18,18 @@ is-form-requires : tie.Need-is-form-requires
 is-form-requires c κs = search rules
 
 returns : tie.Need-returns
-unfolding openingIn
+unfolding opening_in
 returns c =
     let s = text c.before.before.before.before in (
-      read_first s c.before.before.read-grid.result (gridIn s) _ c.before.before.read-grid.ensures.0 (sym c.before.is-form.ensures ∙ c.if1.true),
+      read_first s c.before.before.read-grid.result (grid_in s) _ c.before.before.read-grid.ensures.0 (sym c.before.is-form.ensures ∙ c.if1.true),
       c.before.before.read-grid.ensures.1,
     )
 
-no-grid : (p : tie.Else1) → let s = text p.before.before.before.before in openingIn s ≡ or_else (marginsIn s) (or_else (plantIn s) (or_else (sourceIn s) (one_of others s)))
-unfolding openingIn
+no-grid : (p : tie.Else1) → let s = text p.before.before.before.before in opening_in s ≡ or_else (margins_in s) (or_else (plant_in s) (or_else (source_in s) (one_of others s)))
+unfolding opening_in
 no-grid p =
     let s = text p.before.before.before.before in
-    read_next s p.before.before.read-grid.result (gridIn s) _ p.before.before.read-grid.ensures.0 (sym p.before.is-form.ensures ∙ p.if1.false)
+    read_next s p.before.before.read-grid.result (grid_in s) _ p.before.before.read-grid.ensures.0 (sym p.before.is-form.ensures ∙ p.if1.false)
 
 read-margins-requires : tie.Need-read-margins-requires
 read-margins-requires c κs = search rules
@@ -41,15 +41,15 @@ returns-2 : tie.Need-returns-2
 returns-2 c =
     let s = text c.before.before.before.before.before.before.before in (
       rw (no-grid c.before.before.before)
-          (read_first s c.before.before.read-margins.result (marginsIn s) _ c.before.before.read-margins.ensures.0 (sym c.before.is-form2.ensures ∙ c.if2.true)),
+          (read_first s c.before.before.read-margins.result (margins_in s) _ c.before.before.read-margins.ensures.0 (sym c.before.is-form2.ensures ∙ c.if2.true)),
       c.before.before.read-margins.ensures.1,
     )
 
-no-margins : (p : tie.Else2) → let s = text p.before.before.before.before.before.before.before in openingIn s ≡ or_else (plantIn s) (or_else (sourceIn s) (one_of others s))
+no-margins : (p : tie.Else2) → let s = text p.before.before.before.before.before.before.before in opening_in s ≡ or_else (plant_in s) (or_else (source_in s) (one_of others s))
 no-margins p =
     let s = text p.before.before.before.before.before.before.before in
     no-grid p.before.before.before
-    ∙ read_next s p.before.before.read-margins.result (marginsIn s) _ p.before.before.read-margins.ensures.0 (sym p.before.is-form2.ensures ∙ p.if2.false)
+    ∙ read_next s p.before.before.read-margins.result (margins_in s) _ p.before.before.read-margins.ensures.0 (sym p.before.is-form2.ensures ∙ p.if2.false)
 
 read-plant-requires : tie.Need-read-plant-requires
 read-plant-requires c κs = search rules
@@ -61,15 +61,15 @@ returns-3 : tie.Need-returns-3
 returns-3 c =
     let s = text c.before.before.before.before.before.before.before.before.before.before in (
       rw (no-margins c.before.before.before)
-          (read_first s c.before.before.read-plant.result (plantIn s) _ c.before.before.read-plant.ensures.0 (sym c.before.is-form3.ensures ∙ c.if3.true)),
+          (read_first s c.before.before.read-plant.result (plant_in s) _ c.before.before.read-plant.ensures.0 (sym c.before.is-form3.ensures ∙ c.if3.true)),
       c.before.before.read-plant.ensures.1,
     )
 
-no-plant : (p : tie.Else3) → let s = text p.before.before.before.before.before.before.before.before.before.before in openingIn s ≡ or_else (sourceIn s) (one_of others s)
+no-plant : (p : tie.Else3) → let s = text p.before.before.before.before.before.before.before.before.before.before in opening_in s ≡ or_else (source_in s) (one_of others s)
 no-plant p =
     let s = text p.before.before.before.before.before.before.before.before.before.before in
     no-margins p.before.before.before
-    ∙ read_next s p.before.before.read-plant.result (plantIn s) _ p.before.before.read-plant.ensures.0 (sym p.before.is-form3.ensures ∙ p.if3.false)
+    ∙ read_next s p.before.before.read-plant.result (plant_in s) _ p.before.before.read-plant.ensures.0 (sym p.before.is-form3.ensures ∙ p.if3.false)
 
 read-source-requires : tie.Need-read-source-requires
 read-source-requires c κs = search rules
@@ -81,21 +81,21 @@ returns-4 : tie.Need-returns-4
 returns-4 c =
     let s = text c.before.before.before.before.before.before.before.before.before.before.before.before.before in (
       rw (no-plant c.before.before.before)
-          (read_first s c.before.before.read-source.result (sourceIn s) _ c.before.before.read-source.ensures.0 (sym c.before.is-form4.ensures ∙ c.if4.true)),
+          (read_first s c.before.before.read-source.result (source_in s) _ c.before.before.read-source.ensures.0 (sym c.before.is-form4.ensures ∙ c.if4.true)),
       c.before.before.read-source.ensures.1,
     )
 
-no_source : (p : tie.Else4) → let s = text p.before.before.before.before.before.before.before.before.before.before.before.before.before in openingIn s ≡ one_of others s
-no_source p =
+no_source_lem : (p : tie.Else4) → let s = text p.before.before.before.before.before.before.before.before.before.before.before.before.before in opening_in s ≡ one_of others s
+no_source_lem p =
     let s = text p.before.before.before.before.before.before.before.before.before.before.before.before.before in
     no-plant p.before.before.before
-    ∙ read_next s p.before.before.read-source.result (sourceIn s) _ p.before.before.read-source.ensures.0 (sym p.before.is-form4.ensures ∙ p.if4.false)
+    ∙ read_next s p.before.before.read-source.result (source_in s) _ p.before.before.read-source.ensures.0 (sym p.before.is-form4.ensures ∙ p.if4.false)
 
 read-other-requires : tie.Need-read-other-requires
 read-other-requires c κs = search rules
 
 returns-5 : tie.Need-returns-5
-returns-5 c = (rw (no_source c.before) c.read-other.ensures.0, c.read-other.ensures.1)
+returns-5 c = (rw (no_source_lem c.before) c.read-other.ensures.0, c.read-other.ensures.1)
 
 pub read-opening-spec : {M : Type 1} → statement M
 read-opening-spec =

@@ -1,9 +1,9 @@
 -- `forms::read_other` meets its contract: what is left of the table after the rows that are not read reads what the whole reads. Assumes nothing.
 use borrow.Author.Rules.{rules}
 use mathlib.Core.Path.{refl, sym, ap, ◌∙◌}
-use Rattle.text.specs.Template.{mapRead}
+use Rattle.text.specs.Template.{map_read}
 use Rattle.forms.specs.Reading.{others}
-use Rattle.forms.specs.Calls.{call_of, fitted, fittedCall, plainLine, line_of}
+use Rattle.forms.specs.Calls.{call_of, fitted, fitted_call, plain_line, line_of}
 use Rattle.forms.proofs.Rows.{Left, row-passed, row_read, no_row}
 use Rattle.forms.proofs.Lines.{nothing_read}
 use Rattle.forms.proofs.read_other.Statement.{statement}
@@ -25,11 +25,11 @@ plain-line-requires : tie.Need-plain-line-requires
 plain-line-requires c κs = search rules
 
 returns : tie.Need-returns
-unfolding others call_of fitted line_of plainLine
+unfolding others call_of fitted line_of plain_line
 returns c =
     rw (c.plain-line.ensures, c.before.byte-field.ensures) (
       sym
-          (ap (mapRead fittedCall)
+          (ap (map_read fitted_call)
           (row_read _ _ _ _ _ c.before.before.before.before.before.read-template.ensures _ _ c.before.before.before.numbers.given.1)),
       refl,
     )
@@ -57,11 +57,11 @@ unfolding others
 left-1 p = row-passed _ _ _ _ _ p.before.before.read-template.ensures p.enum_told.given.1
 
 returns-2 : tie.Need-returns-2
-unfolding others call_of fitted line_of plainLine
+unfolding others call_of fitted line_of plain_line
 returns-2 c =
     rw (c.plain-line2.ensures, c.before.byte-field2.ensures) (
       sym
-          (ap (mapRead fittedCall)
+          (ap (map_read fitted_call)
           (left-1 c.before.before.before.before.before.before.before
           ∙ row_read _ _ _ _ _ c.before.before.before.before.before.read-template2.ensures _ _ c.before.before.before.numbers2.given.1)),
       refl,
@@ -87,11 +87,11 @@ unfolding others
 left-2 p = left-1 p.before.before.before.before ∙ row-passed _ _ _ _ _ p.before.before.read-template2.ensures p.enum-told2.given.1
 
 returns-3 : tie.Need-returns-3
-unfolding others call_of fitted line_of plainLine
+unfolding others call_of fitted line_of plain_line
 returns-3 c =
     rw c.plain-line3.ensures (
       sym
-          (ap (mapRead fittedCall)
+          (ap (map_read fitted_call)
           (left-2 c.before.before.before.before.before.before
           ∙ row_read _ _ _ _ _ c.before.before.before.before.read-template3.ensures _ _ c.before.before.next.given.1)),
       refl,

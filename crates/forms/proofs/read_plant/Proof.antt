@@ -2,9 +2,9 @@
 use borrow.Author.Rules.{rules}
 use mathlib.Core.Path.{refl}
 use Rattle.text.proofs.Templates.{template-read}
-use Rattle.fuel.specs.Fuel.{noLine}
-use Rattle.forms.specs.Reading.{plantIn}
-use Rattle.forms.specs.Calls.{call_of, fittedLine, fitted, plainLine, line_of}
+use Rattle.fuel.specs.Fuel.{no_line}
+use Rattle.forms.specs.Reading.{plant_in}
+use Rattle.forms.specs.Calls.{call_of, fitted_line, fitted, plain_line, line_of}
 use Rattle.forms.proofs.Lists.{map-four}
 use Rattle.forms.proofs.Lines.{nothing_read}
 use Rattle.forms.proofs.read_plant.Statement.{statement}
@@ -26,10 +26,10 @@ no-form-requires : tie.Need-no-form-requires
 no-form-requires c κs = search rules
 
 returns : tie.Need-returns
-unfolding plantIn
+unfolding plant_in
 returns c =
     let s = c.before.before.before.before.before.before.args.line.now in
-    nothing_read s (plantIn s) c.no-form.ensures (rw (template-read _ s 0 c.before.before.before.read-template.ensures c.before.enum_told.given.1))
+    nothing_read s (plant_in s) c.no-form.ensures (rw (template-read _ s 0 c.before.before.before.read-template.ensures c.before.enum_told.given.1))
 
 read-heat-requires : tie.Need-read-heat-requires
 read-heat-requires c κs = search rules
@@ -53,7 +53,7 @@ byte-field-requires-3 : tie.Need-byte-field-requires-3
 byte-field-requires-3 c κs = search rules
 
 returns-2 : tie.Need-returns-2
-unfolding plantIn call_of fitted line_of plainLine
+unfolding plant_in call_of fitted line_of plain_line
 returns-2 c =
     let s = c.before.before.before.before.before.before.before.before.before.before.before.before.before.before.before.before.args.line.now in
     let h = c.before.before.before.before.before.before.before.before.before.read-heat.ensures in
@@ -69,7 +69,7 @@ returns-2 c =
         f.1.1,
         h.0,
         h.1,
-        map-four fittedLine noLine _ refl,
+        map-four fitted_line no_line _ refl,
       ),
       rw c.before.before.before.before.before.before.plain-line.ensures,
     )

@@ -6,7 +6,7 @@ use native.Mathlib.Omega.{arith}
 use native.Mathlib.Nat.{mul-le-mul_right}
 use mir.Syntax.{w64}
 use mir.Val.{Fits}
-use Rattle.fuel.specs.Fuel.{withinLimits, isEnergy, lineEnergy, statedEnergy}
+use Rattle.fuel.specs.Fuel.{within_limits, is_energy, line_energy, stated_energy}
 use Rattle.fuel.proofs.stated_energy.Statement.{statement}
 use Rattle.fuel.proofs.stated_energy.Tie as tie
 
@@ -21,11 +21,11 @@ mul-t7 : tie.Need-overflow-mul-t7
 mul-t7 c = product-fits _ _ (omega (arith, c.before.before.well-formed.0)) (omega (arith, c.before.before.well-formed.1.0))
 
 returns : tie.Need-returns
-unfolding statedEnergy withinLimits isEnergy lineEnergy
+unfolding stated_energy within_limits is_energy line_energy
 returns c = rw (sym c.before.energy-fits.ensures ∙ c.if1.true)
 
 returns-2 : tie.Need-returns-2
-unfolding statedEnergy withinLimits isEnergy lineEnergy
+unfolding stated_energy within_limits is_energy line_energy
 returns-2 c = rw (sym c.before.energy-fits.ensures ∙ c.if1.false)
 
 pub stated-energy-spec : {M : Type 1} → statement M

@@ -10,28 +10,28 @@ use lib.ListN.{take}
 use borrow.Author.Tests.{le-leb, lt-leb}
 use Rattle.rounding.specs.declared.Direction.{Direction}
 use Rattle.rounding.proofs.Tests.{second-fails, tested}
-use Rattle.metering.specs.Energy.{hasRatio, allMeters, judgedReadings, judgedMeters}
-use Rattle.metering.specs.Steps.{metersRead}
+use Rattle.metering.specs.Energy.{has_ratio, all_meters, judged_readings, judged_meters}
+use Rattle.metering.specs.Steps.{meters_read}
 use Rattle.metering.specs.declared.Meter.{Meter}
 use Rattle.metering.specs.declared.MeterRead.{MeterRead}
 use Rattle.metering.specs.declared.MeterRead.TheVariants.{Moved}
 use Rattle.metering.specs.declared.MetersJudged.TheVariants.{Refused}
-use Rattle.metering.proofs.Energy.{judgedOf, judged-by-reads}
+use Rattle.metering.proofs.Energy.{judged_of, judged-by-reads}
 use Rattle.metering.proofs.judge_meters.Statement.{statement}
 use Rattle.metering.proofs.judge_meters.Tie as tie
 
-refused-2 : (dir : Direction) (n : ℕ) (ms : List Meter) → (leb 1 n && leb n 4 && allMeters hasRatio (take n ms)) ≡ false → Refused 2 ≡ judgedMeters dir n ms
-unfolding judgedMeters
-refused-2 dir n ms h = sym (ap (λ (t : Bool). cond t (judgedReadings dir (take n ms)) (Refused 2)) h)
+refused-2 : (dir : Direction) (n : ℕ) (ms : List Meter) → (leb 1 n && leb n 4 && all_meters has_ratio (take n ms)) ≡ false → Refused 2 ≡ judged_meters dir n ms
+unfolding judged_meters
+refused-2 dir n ms h = sym (ap (λ (t : Bool). cond t (judged_readings dir (take n ms)) (Refused 2)) h)
 
-not-counted : (dir : Direction) (n : ℕ) (ms : List Meter) → (leb 1 n && leb n 4) ≡ false → Refused 2 ≡ judgedMeters dir n ms
-not-counted dir n ms h = refused-2 dir n ms (ap (λ (t : Bool). t && allMeters hasRatio (take n ms)) h)
+not-counted : (dir : Direction) (n : ℕ) (ms : List Meter) → (leb 1 n && leb n 4) ≡ false → Refused 2 ≡ judged_meters dir n ms
+not-counted dir n ms h = refused-2 dir n ms (ap (λ (t : Bool). t && all_meters has_ratio (take n ms)) h)
 
-counted : (dir : Direction) (n : ℕ) (ms : List Meter) (r : MeterRead) → 1 ≤ n → n ≤ 4 → allMeters hasRatio (take n ms) ≡ true
-    → r ≡ metersRead dir (take n ms) → judgedOf r ≡ judgedMeters dir n ms
-unfolding judgedMeters
+counted : (dir : Direction) (n : ℕ) (ms : List Meter) (r : MeterRead) → 1 ≤ n → n ≤ 4 → all_meters has_ratio (take n ms) ≡ true
+    → r ≡ meters_read dir (take n ms) → judged_of r ≡ judged_meters dir n ms
+unfolding judged_meters
 counted dir n ms r h k f e =
-    ap judgedOf e ∙ judged-by-reads dir (take n ms) f ∙ sym (rw (le-leb 1 n h, le-leb n 4 k, f))
+    ap judged_of e ∙ judged-by-reads dir (take n ms) f ∙ sym (rw (le-leb 1 n h, le-leb n 4 k, f))
 
 returns : tie.Need-returns
 returns c = not-counted c.before.args.direction c.before.args.count c.before.args.meters (rw c.if1.true)
@@ -61,7 +61,7 @@ enum_told c = search rules
 
 -- What the loop gave, of a count from 1 to 4 and ratios in their range.
 judged : (c : tie.After-read-meters) (r : MeterRead) → c.read-meters.result ≡ r
-    → let a = c.before.before.before.before.before.args in judgedOf r ≡ judgedMeters a.direction a.count a.meters
+    → let a = c.before.before.before.before.before.args in judged_of r ≡ judged_meters a.direction a.count a.meters
 judged c r e =
     let t = c.before.before in
     let a = t.before.before.before.args in

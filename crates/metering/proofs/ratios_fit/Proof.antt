@@ -6,14 +6,14 @@ use Prim.Native.Nat.{◌-◌, ◌+◌, ◌≤◌, zero-le}
 use native.Mathlib.Nat.{le_of_eq, le_trans}
 use lib.ListN.{length, take, get_or}
 use Rattle.rounding.proofs.Tests.{tested}
-use Rattle.metering.specs.Energy.{hasRatio, allMeters}
+use Rattle.metering.specs.Energy.{has_ratio, all_meters}
 use Rattle.metering.specs.declared.Meter.{Meter}
-use Rattle.metering.proofs.Energy.{ratiosLeft, ratios-first, ratios-turn, ratios-none}
+use Rattle.metering.proofs.Energy.{ratios_left, ratios-first, ratios-turn, ratios-none}
 use Rattle.metering.proofs.ratios_fit.Statement.{statement}
 use Rattle.metering.proofs.ratios_fit.Tie as tie
 
 abbrev invariant-loop : tie.invariant-loop
-invariant-loop count meters i₀ i = (i ≤ count) × (allMeters hasRatio (take count meters) ≡ ratiosLeft meters count i)
+invariant-loop count meters i₀ i = (i ≤ count) × (all_meters has_ratio (take count meters) ≡ ratios_left meters count i)
 
 abbrev decreases-loop : tie.decreases-loop
 decreases-loop count meters i₀ i = count - i
@@ -26,13 +26,13 @@ room c = le_trans c.requires (le_of_eq (sym c.well-formed.0.1.0.1))
 turned : (c : tie.After-ratio-fits invariant-loop decreases-loop) (d : Meter) (t : Bool)
     → let l = c.before.before.before in
     let a = l.before.args in
-    hasRatio (get_or a.t1 l.loop.i d) ≡ t → allMeters hasRatio (take a.count a.t1) ≡ (t && ratiosLeft a.t1 a.count (l.loop.i + 1))
+    has_ratio (get_or a.t1 l.loop.i d) ≡ t → all_meters has_ratio (take a.count a.t1) ≡ (t && ratios_left a.t1 a.count (l.loop.i + 1))
 turned c d t e =
     let l = c.before.before.before in
     let a = l.before in
     l.loop.invariant.1
     ∙ ratios-turn a.args.t1 a.args.count l.loop.i d c.before.before.loop-test.true (room a)
-    ∙ ap (λ (s : Bool). s && ratiosLeft a.args.t1 a.args.count (l.loop.i + 1)) e
+    ∙ ap (λ (s : Bool). s && ratios_left a.args.t1 a.args.count (l.loop.i + 1)) e
 
 loop-holds : tie.Need-loop-init invariant-loop decreases-loop
 loop-holds c = (zero-le, ratios-first c.args.t1 c.args.count)

@@ -4,7 +4,7 @@ use mathlib.Core.Path.{◌≡◌, sym, ap, ◌∙◌}
 use Rattle.rounding.specs.declared.Direction.{Direction}
 use Rattle.rounding.specs.Outcome.{given}
 use Rattle.rounding.specs.Divided.{opposite}
-use Rattle.metering.specs.Reading.{wattHours, wattHoursMeaning}
+use Rattle.metering.specs.Reading.{watt_hours, watt_hours_meaning}
 use Rattle.metering.specs.Energy.{adding, taking}
 use Rattle.metering.specs.declared.MeterRead.TheVariants.{Moved}
 use Rattle.metering.proofs.Readings.{was-declined}
@@ -15,26 +15,26 @@ use Rattle.metering.proofs.read_meter.Tie as tie
 -- What the calls gave, of the meter's own readings.
 takes-is : (c : tie.After-watt-hours)
     → let a = c.before.before.before.args in
-    wattHours (opposite a.direction) a.meter.ratio (taking a.meter) ≡ wattHoursMeaning c.watt-hours.result
+    watt_hours (opposite a.direction) a.meter.ratio (taking a.meter) ≡ watt_hours_meaning c.watt-hours.result
 takes-is c =
     let m = c.before.before.before.args.meter in
-    ap (λ (d : Direction). wattHours d m.ratio (taking m)) (sym c.before.reversed.ensures)
-    ∙ ap (wattHours c.before.reversed.result m.ratio) (sym c.before.before.taking.ensures)
+    ap (λ (d : Direction). watt_hours d m.ratio (taking m)) (sym c.before.reversed.ensures)
+    ∙ ap (watt_hours c.before.reversed.result m.ratio) (sym c.before.before.taking.ensures)
     ∙ sym c.watt-hours.ensures
 
 abbrev earlier : tie.After-watt-hours2 → tie.After-watt-hours
 earlier c = c.before.before.before.before.before
 
 adds-is : (c : tie.After-watt-hours2)
-    → let a = (earlier c).before.before.before.args in wattHours a.direction a.meter.ratio (adding a.meter) ≡ wattHoursMeaning c.watt-hours2.result
+    → let a = (earlier c).before.before.before.args in watt_hours a.direction a.meter.ratio (adding a.meter) ≡ watt_hours_meaning c.watt-hours2.result
 adds-is c =
     let a = (earlier c).before.before.before.args in
-    ap (wattHours a.direction a.meter.ratio) (sym c.before.adding.ensures) ∙ sym c.watt-hours2.ensures
+    ap (watt_hours a.direction a.meter.ratio) (sym c.before.adding.ensures) ∙ sym c.watt-hours2.ensures
 
 takes-given : (c : tie.After-watt-hours2)
     → let a = (earlier c).before.before.before.args in
-    wattHours (opposite a.direction) a.meter.ratio (taking a.meter) ≡ given c.before.before.before.takes.given.0.0
-takes-given c = takes-is (earlier c) ∙ ap wattHoursMeaning c.before.before.before.takes.given.1
+    watt_hours (opposite a.direction) a.meter.ratio (taking a.meter) ≡ given c.before.before.before.takes.given.0.0
+takes-given c = takes-is (earlier c) ∙ ap watt_hours_meaning c.before.before.before.takes.given.1
 
 taking-requires : tie.Need-taking-requires
 taking-requires c κs = search rules
@@ -56,7 +56,7 @@ returns c =
     let w = c.before.before in
     let a = w.before.before.before.args in
     meter-refused a.direction a.meter (taking a.meter) (λ h. (both-accepted a.meter h).1)
-    (was-declined (opposite a.direction) a.meter.ratio (taking a.meter) _ (takes-is w ∙ ap wattHoursMeaning c.enum_told.given.1))
+    (was-declined (opposite a.direction) a.meter.ratio (taking a.meter) _ (takes-is w ∙ ap watt_hours_meaning c.enum_told.given.1))
 
 adding-requires : tie.Need-adding-requires
 adding-requires c κs = search rules
@@ -75,13 +75,13 @@ returns-2 c =
     let w = c.before.before in
     let a = (earlier w).before.before.before.args in
     meter-refused a.direction a.meter (adding a.meter) (λ h. (both-accepted a.meter h).0)
-    (was-declined a.direction a.meter.ratio (adding a.meter) _ (adds-is w ∙ ap wattHoursMeaning c.enum-told2.given.1))
+    (was-declined a.direction a.meter.ratio (adding a.meter) _ (adds-is w ∙ ap watt_hours_meaning c.enum-told2.given.1))
 
 runs-back-requires : tie.Need-runs-back-requires
 runs-back-requires c κs =
     let w = c.before.before.before in
     let a = (earlier w).before.before.before.args in
-    both-given a.direction a.meter _ _ (adds-is w ∙ ap wattHoursMeaning c.before.adds.given.1) (takes-given w)
+    both-given a.direction a.meter _ _ (adds-is w ∙ ap watt_hours_meaning c.before.adds.given.1) (takes-given w)
 
 returns-3 : tie.Need-returns-3
 returns-3 c =
@@ -89,7 +89,7 @@ returns-3 c =
     let a = (earlier w).before.before.before.args in
     let x = c.before.before.adds.given in
     ap (Moved x.0.0 w.before.before.before.takes.given.0.0) c.runs-back.ensures
-    ∙ meter-moved a.direction a.meter _ _ (adds-is w ∙ ap wattHoursMeaning x.1) (takes-given w)
+    ∙ meter-moved a.direction a.meter _ _ (adds-is w ∙ ap watt_hours_meaning x.1) (takes-given w)
 
 pub read-meter-spec : {M : Type 1} → statement M
 read-meter-spec =

@@ -7,7 +7,7 @@ use native.Mathlib.Nat.{le_of_eq, le_trans, sub-eq-zero_of_le}
 use native.Mathlib.Omega.{arith}
 use lib.ListN.{length, take, drop, get_or}
 use Rattle.metering.specs.Reading.{limit}
-use Rattle.metering.specs.Steps.{metersRead}
+use Rattle.metering.specs.Steps.{meters_read}
 use Rattle.metering.specs.declared.MeterRead.TheVariants.{Moved}
 use Rattle.metering.proofs.Energy.{joined, left, at_first, stops, goes_on, meter-within, meters-none, joined-none}
 use Rattle.metering.proofs.read_meters.Statement.{statement}
@@ -16,7 +16,7 @@ use Rattle.metering.proofs.read_meters.Tie as tie
 abbrev invariant-loop : tie.invariant-loop
 invariant-loop count direction meters adds₀ takes₀ back₀ i₀ adds takes back i =
     (i ≤ count)
-    × (metersRead direction (take count meters) ≡ joined (Moved adds takes back) (left direction meters count i))
+    × (meters_read direction (take count meters) ≡ joined (Moved adds takes back) (left direction meters count i))
     × (adds ≤ i * limit)
     × (takes ≤ i * limit)
 
@@ -90,7 +90,7 @@ returns-2 c =
     let a = b.before.args in
     let sums = Moved b.loop.adds b.loop.takes b.loop.back in
     sym (b.loop.invariant.1
-    ∙ ap (λ (k : ℕ). joined sums (metersRead a.direction (take k (drop b.loop.i a.t1)))) (sub-eq-zero_of_le c.loop-test.false)
+    ∙ ap (λ (k : ℕ). joined sums (meters_read a.direction (take k (drop b.loop.i a.t1)))) (sub-eq-zero_of_le c.loop-test.false)
     ∙ ap (joined sums) (meters-none a.direction)
     ∙ joined-none b.loop.adds b.loop.takes b.loop.back)
 

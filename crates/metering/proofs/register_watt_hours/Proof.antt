@@ -12,20 +12,20 @@ use Rattle.rounding.specs.declared.Direction.{Direction}
 use Rattle.rounding.specs.declared.Direction.TheVariants.{Up, Down}
 use Rattle.rounding.specs.Outcome.{refused, given}
 use Rattle.rounding.specs.Divided.{divided}
-use Rattle.metering.specs.Reading.{unit, limit, ratioFits, accepted, wattHours}
+use Rattle.metering.specs.Reading.{unit, limit, ratio_fits, accepted, watt_hours}
 use Rattle.metering.specs.Steps.{magnitude}
 use Rattle.metering.specs.declared.Bounds.{Bounds}
 use Rattle.metering.specs.declared.Reading.TheVariants.{Single}
-use Rattle.metering.proofs.Patterns.{field_of, digitsOf, exact-at, below_at, no-number-refused, accepted-at, beyond-at}
+use Rattle.metering.proofs.Patterns.{field_of, digits_of, exact-at, below_at, no-number-refused, accepted-at, beyond-at}
 use Rattle.metering.proofs.Readings.{ratio-above-zero, rounded, declined, limit-rounded}
 use Rattle.metering.proofs.register_watt_hours.Statement.{statement}
 use Rattle.metering.proofs.register_watt_hours.Tie as tie
 
 -- The exact product at a pattern, in units.
 abbrev at : ℕ → ℕ → ℕ
-at ratio b = magnitude (field_of b) (digitsOf b) * ratio
+at ratio b = magnitude (field_of b) (digits_of b) * ratio
 
-module _ (ratio b : ℕ) (in-range : ratioFits ratio ≡ true) (low : b ≤ 2147483648) (field : field_of b ≤ 153) where
+module _ (ratio b : ℕ) (in-range : ratio_fits ratio ≡ true) (low : b ≤ 2147483648) (field : field_of b ≤ 153) where
   finite : field_of b < 255
   finite = omega arith
 
@@ -33,11 +33,11 @@ module _ (ratio b : ℕ) (in-range : ratioFits ratio ≡ true) (low : b ≤ 2147
   tested : (t : Bool) → leb (divided Up (at ratio b) unit) limit ≡ t → accepted ratio (Single (of_bits binary32 b)) ≡ t
   tested t e = accepted-at ratio b low finite ∙ limit-rounded (at ratio b) ∙ e
 
-  too_large : (dir : Direction) → limit < divided Up (at ratio b) unit → refused 3 ≡ wattHours dir ratio (Single (of_bits binary32 b))
+  too_large : (dir : Direction) → limit < divided Up (at ratio b) unit → refused 3 ≡ watt_hours dir ratio (Single (of_bits binary32 b))
   too_large dir h = declined dir ratio (Single (of_bits binary32 b)) in-range (tested false (lt-leb _ _ h))
 
   not-too-large : (dir : Direction) → divided Up (at ratio b) unit ≤ limit
-      → given (divided dir (at ratio b) unit) ≡ wattHours dir ratio (Single (of_bits binary32 b))
+      → given (divided dir (at ratio b) unit) ≡ watt_hours dir ratio (Single (of_bits binary32 b))
   not-too-large dir h =
       rounded dir ratio (Single (of_bits binary32 b)) (divided dir (at ratio b) unit) in-range (tested true (le-leb _ _ h))
       (ap (λ (n : ℕ). divided dir (n * ratio) unit) (exact-at b finite))
@@ -74,13 +74,13 @@ enum-told-2 c = search rules
 -- What is given within the limit, in the direction that an arm knows.
 within : (c : tie.After-round-both-ways) (dir : Direction) → c.round-both-ways.result.up ≤ limit → c.before.before.before.args.direction ≡ dir
     → let a = c.before.before.before.args in
-    given (divided dir (at a.ratio a.bits) unit) ≡ wattHours a.direction a.ratio (Single (of_bits binary32 a.bits))
+    given (divided dir (at a.ratio a.bits) unit) ≡ watt_hours a.direction a.ratio (Single (of_bits binary32 a.bits))
 within c dir h e =
     let s = c.before.before.before in
     let a = s.args in
     not-too-large a.ratio a.bits s.requires c.before.before.if1.false c.before.if2.false dir
     (subst (λ (x : Bounds). x.up ≤ limit) c.round-both-ways.ensures h)
-    ∙ ap (λ (d : Direction). wattHours d a.ratio (Single (of_bits binary32 a.bits))) (sym e)
+    ∙ ap (λ (d : Direction). watt_hours d a.ratio (Single (of_bits binary32 a.bits))) (sym e)
 
 returns-4 : tie.Need-returns-4
 returns-4 c =

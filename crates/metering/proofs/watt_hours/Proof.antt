@@ -9,7 +9,7 @@ use lib.Dec.{T}
 use lib.Ieee.{Float, binary32}
 use lib.Ieee.Bits.{of_bits-to_bits}
 use Rattle.rounding.proofs.Tests.{tested}
-use Rattle.metering.specs.Reading.{limit, ratioFits, wattHours}
+use Rattle.metering.specs.Reading.{limit, ratio_fits, watt_hours}
 use Rattle.metering.specs.declared.Reading.TheVariants.{Single}
 use Rattle.metering.proofs.Patterns.{no_nan, nan-refused}
 use Rattle.metering.proofs.Readings.{out_of_range, declined, whole-within, whole-beyond, count-beyond}
@@ -17,7 +17,7 @@ use Rattle.metering.proofs.watt_hours.Statement.{statement}
 use Rattle.metering.proofs.watt_hours.Tie as tie
 
 -- Past the test of the ratio.
-in-range : (c : tie.Else1) → ratioFits c.before.before.args.ratio ≡ true
+in-range : (c : tie.Else1) → ratio_fits c.before.before.args.ratio ≡ true
 in-range c = tested _ _ c.before.ratio-fits.ensures false c.if1.false
 
 ratio-fits-requires : tie.Need-ratio-fits-requires
@@ -36,7 +36,7 @@ returns-2 c =
     let s = c.before.before.before.before in
     let a = s.before.before.args in
     let w = c.before.before.reading.given in
-    count-beyond a.direction a.ratio w.0.0 (in-range s) c.if2.true ∙ ap (wattHours a.direction a.ratio) (sym w.1)
+    count-beyond a.direction a.ratio w.0.0 (in-range s) c.if2.true ∙ ap (watt_hours a.direction a.ratio) (sym w.1)
 
 mul-product : tie.Need-overflow-mul-product
 mul-product c =
@@ -51,7 +51,7 @@ returns-3 c =
     let s = c.before.before.before.before.before in
     let a = s.before.before.args in
     let w = c.before.before.before.reading.given in
-    whole-beyond a.direction a.ratio w.0.0 (in-range s) c.if3.true ∙ ap (wattHours a.direction a.ratio) (sym w.1)
+    whole-beyond a.direction a.ratio w.0.0 (in-range s) c.if3.true ∙ ap (watt_hours a.direction a.ratio) (sym w.1)
 
 enum-known-reading-2 : tie.Need-enum-known-reading-2
 enum-known-reading-2 c = search rules
@@ -62,7 +62,7 @@ returns-4 c =
     let a = s.before.before.args in
     let x = c.before.before.reading2.given in
     declined a.direction a.ratio (Single x.0.0) (in-range s) (nan-refused a.ratio x.0.0 c.if4.true)
-    ∙ ap (wattHours a.direction a.ratio) (sym x.1)
+    ∙ ap (watt_hours a.direction a.ratio) (sym x.1)
 
 float-to-bits-register-watt-hours : tie.Need-float-to-bits-register-watt-hours
 float-to-bits-register-watt-hours c = no_nan c.before.before.reading2.given.0.0 c.if4.false
@@ -75,16 +75,16 @@ returns-5 c =
     let s = c.before.before.before.before.before in
     let a = s.before.before.args in
     let w = c.before.before.before.reading.given in
-    whole-within a.direction a.ratio w.0.0 (in-range s) c.if3.false ∙ ap (wattHours a.direction a.ratio) (sym w.1)
+    whole-within a.direction a.ratio w.0.0 (in-range s) c.if3.false ∙ ap (watt_hours a.direction a.ratio) (sym w.1)
 
 returns-6 : tie.Need-returns-6
 returns-6 c =
     let a = c.before.before.before.before.before.before.before.args in
     let x = c.before.before.before.reading2.given in
     c.register-watt-hours.ensures
-    ∙ ap (λ (v : Float). wattHours a.direction a.ratio (Single v))
+    ∙ ap (λ (v : Float). watt_hours a.direction a.ratio (Single v))
     (of_bits-to_bits binary32 x.0.0 (subst T (sym c.before.before.known-told2.given.0.1) tt))
-    ∙ ap (wattHours a.direction a.ratio) (sym x.1)
+    ∙ ap (watt_hours a.direction a.ratio) (sym x.1)
 
 pub watt-hours-spec : {M : Type 1} → statement M
 watt-hours-spec =

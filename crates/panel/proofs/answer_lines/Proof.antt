@@ -6,10 +6,10 @@ use mathlib.Core.Path.{◌≡◌, refl, subst, ◌∙◌}
 use mathlib.Core.Logic.{⊎_elim}
 use native.Mathlib.Omega.{arith}
 use lib.ListN.{length, take, drop}
-use Rattle.records.specs.Records.{noPlant, noSource}
-use Rattle.forms.specs.Calls.{lineCall}
-use Rattle.answers.specs.Answers.{replyText, replyMeaning}
-use Rattle.answers.specs.Input.{lineStep, lineReply}
+use Rattle.records.specs.Records.{no_plant, no_source}
+use Rattle.forms.specs.Calls.{line_call}
+use Rattle.answers.specs.Answers.{reply_text, reply_meaning}
+use Rattle.answers.specs.Input.{line_step, line_reply}
 use Rattle.answers.specs.Typed.{NoLf, LeftByLines}
 use Rattle.answers.proofs.Forms.{read-steps, read-replies}
 use Rattle.answers.proofs.Owner.{Answered, no-form-answered, grid-answered, plant-answered, source-answered, report-answered}
@@ -136,7 +136,7 @@ report-on-requires c κs = search rules
 -- Where the kinds of lines meet again, the ledger and the reply are those of the line that was read.
 met : (c : tie.At-match2-branch invariant-loop decreases-loop)
     → Answered c.before.before.before.before.before.before.before.before.before.before.before.before.loop.ledger c.before.read-line.result c.match2.ledger c.match2.reply
-unfolding noPlant noSource
+unfolding no_plant no_source
 met c =
     let L = c.before.before.before.before.before.before.before.before.before.before.before.before.loop.ledger in
     let ln = c.before.read-line.result in
@@ -154,8 +154,8 @@ met c =
 turned : (c : tie.At-match2-branch invariant-loop decreases-loop)
     → let k = c.before.before.before in
     let l = k.before.before.before.before.before.before.before.before.before.loop.ledger in
-    let call = lineCall (take (k.before.before.count.given.0.0 - 0) (drop 0 k.before.before.before.before.before.before.next-line.new.0)) in
-    (c.match2.ledger ≡ lineStep l call) × (replyMeaning c.match2.reply ≡ lineReply l call)
+    let call = line_call (take (k.before.before.count.given.0.0 - 0) (drop 0 k.before.before.before.before.before.before.next-line.new.0)) in
+    (c.match2.ledger ≡ line_step l call) × (reply_meaning c.match2.reply ≡ line_reply l call)
 turned c =
     let l = c.before.before.before.before.before.before.before.before.before.before.before.before.loop.ledger in
     let asked = c.before.read-line.ensures in
@@ -186,10 +186,10 @@ print-requires c κs =
     let k = m.before.before.before in
     let b = k.before.before.before.before.before.before.next-line.new.0 in
     let l = k.before.before.before.before.before.before.before.before.before.loop in
-    let call = lineCall (take (k.before.before.count.given.0.0 - 0) (drop 0 b)) in
-    let r = replyMeaning m.match2.reply in
-    let short : length (replyText r) ≤ 140 = rw (turned m).1 (answer-length l.ledger call) in
-    let fits : length (replyText r) ≤ length b
+    let call = line_call (take (k.before.before.count.given.0.0 - 0) (drop 0 b)) in
+    let r = reply_meaning m.match2.reply in
+    let short : length (reply_text r) ≤ 140 = rw (turned m).1 (answer-length l.ledger call) in
+    let fits : length (reply_text r) ≤ length b
     = omega (arith, short, k.before.before.before.before.before.before.next-line.auto.0, l.invariant.0, k.before.before.before.before.before.before.before.before.before.before.before.before.requires) in
     answer-put b r _ _ fits p.put-reply.ensures
 

@@ -5,14 +5,14 @@ use mathlib.Core.Bool.{Bool, true, false, ◌&&◌}
 use Prim.Native.Nat.{◌+◌, ◌-◌, ◌≤◌, zero-le}
 use native.Mathlib.Nat.{le_of_eq, le_trans}
 use lib.ListN.{length, take, drop}
-use Rattle.records.specs.Judging.{allWithinLimits}
-use Rattle.fuel.specs.Fuel.{withinLimits}
-use Rattle.records.proofs.Lines.{next-line, no_line}
+use Rattle.records.specs.Judging.{all_within_limits}
+use Rattle.fuel.specs.Fuel.{within_limits}
+use Rattle.records.proofs.Lines.{next-line, no_line_lem}
 use Rattle.records.proofs.are_within_limits.Statement.{statement}
 use Rattle.records.proofs.are_within_limits.Tie as tie
 
 abbrev invariant-loop : tie.invariant-loop
-invariant-loop count lines i₀ i = (i ≤ count) × (allWithinLimits (drop i (take count lines)) ≡ allWithinLimits (take count lines))
+invariant-loop count lines i₀ i = (i ≤ count) × (all_within_limits (drop i (take count lines)) ≡ all_within_limits (take count lines))
 
 abbrev decreases-loop : tie.decreases-loop
 decreases-loop count lines i₀ i = count - i
@@ -25,11 +25,11 @@ room c = le_trans c.requires (le_of_eq (sym c.well-formed.0.1.0.1))
 turn : (c : tie.After-is-within-limits invariant-loop decreases-loop) (t : Bool) → c.is-within-limits.result ≡ t
     → let b = c.before.before.before in
     let a = b.before.args in
-    (t && allWithinLimits (drop (b.loop.i + 1) (take a.count a.t1))) ≡ allWithinLimits (take a.count a.t1)
+    (t && all_within_limits (drop (b.loop.i + 1) (take a.count a.t1))) ≡ all_within_limits (take a.count a.t1)
 turn c t e =
     let b = c.before.before.before in
     let a = b.before.args in
-    sym (next-line withinLimits a.t1 a.count b.loop.i _ t c.before.before.loop-test.true (room b.before)
+    sym (next-line within_limits a.t1 a.count b.loop.i _ t c.before.before.loop-test.true (room b.before)
     (sym c.is-within-limits.ensures ∙ e))
     ∙ b.loop.invariant.1
 
@@ -61,7 +61,7 @@ returns-2 : tie.Need-returns-2 invariant-loop decreases-loop
 returns-2 c =
     let b = c.before in
     let a = b.before.args in
-    sym (no_line withinLimits a.t1 a.count b.loop.i c.loop-test.false (room b.before)) ∙ b.loop.invariant.1
+    sym (no_line_lem within_limits a.t1 a.count b.loop.i c.loop-test.false (room b.before)) ∙ b.loop.invariant.1
 
 pub are-within-limits-spec : {M : Type 1} → statement M
 are-within-limits-spec =

@@ -1,7 +1,7 @@
 -- `records::loss_is_within_limits` meets its contract: each kind of loss in turn. Assumes nothing.
 use borrow.Author.Rules.{rules}
 use mathlib.Core.Path.{sym, ap}
-use Rattle.records.specs.Judging.{lossWithinLimits}
+use Rattle.records.specs.Judging.{loss_within_limits}
 use Rattle.records.proofs.loss_is_within_limits.Statement.{statement}
 use Rattle.records.proofs.loss_is_within_limits.Tie as tie
 
@@ -21,7 +21,7 @@ returns : tie.Need-returns
 returns c = search rules
 
 returns-2 : tie.Need-returns-2
-returns-2 c = ap lossWithinLimits (sym c.before.loss.given.1)
+returns-2 c = ap loss_within_limits (sym c.before.loss.given.1)
 
 returns-3 : tie.Need-returns-3
 returns-3 c = search rules

@@ -2,18 +2,18 @@
 use borrow.Author.Rules.{rules}
 use mathlib.Core.Path.{◌≡◌, sym, ap, ◌∙◌}
 use native.Mathlib.Omega.{arith}
-use Rattle.records.specs.Heat.{heatJudged}
+use Rattle.records.specs.Heat.{heat_judged}
 use Rattle.records.specs.Judging.{lines_of}
 use Rattle.records.specs.declared.HeatJudged.{HeatJudged}
 use Rattle.records.proofs.Heat.{heat-within}
-use Rattle.report.specs.Steps.{electricityBy}
+use Rattle.report.specs.Steps.{electricity_by}
 use Rattle.report.proofs.baseline_milligrams.Statement.{statement}
 use Rattle.report.proofs.baseline_milligrams.Tie as tie
 
 -- What was judged of the heat.
 judged : (c : tie.After-heat-judged) (j : HeatJudged) → c.heat-judged.result ≡ j
     → let p = c.before.args.plant in
-    j ≡ heatJudged p.heat p.count (lines_of p)
+    j ≡ heat_judged p.heat p.count (lines_of p)
 judged c j e = sym e ∙ c.heat-judged.ensures
 
 heat-judged-requires : tie.Need-heat-judged-requires
@@ -39,19 +39,19 @@ returns : tie.Need-returns
 returns c =
     let b = c.before.before in
     let a = b.before.args in
-    (ap (electricityBy a.plant.heat a.milligrams) (judged b _ c.enum_told.given.1), b.before.requires)
+    (ap (electricity_by a.plant.heat a.milligrams) (judged b _ c.enum_told.given.1), b.before.requires)
 
 returns-2 : tie.Need-returns-2
 returns-2 c =
     let b = c.before.before in
     let a = b.before.args in
-    (ap (electricityBy a.plant.heat a.milligrams) (judged b _ c.enum-told2.given.1), tt)
+    (ap (electricity_by a.plant.heat a.milligrams) (judged b _ c.enum-told2.given.1), tt)
 
 returns-3 : tie.Need-returns-3
 returns-3 c =
     let b = c.before.before.before.before in
     let a = b.before.args in (
-      rw c.allocate.ensures.0 (ap (electricityBy a.plant.heat a.milligrams) (judged b _ c.before.before.heat.given.1)),
+      rw c.allocate.ensures.0 (ap (electricity_by a.plant.heat a.milligrams) (judged b _ c.before.before.heat.given.1)),
       omega (arith, c.allocate.ensures.1, b.before.requires),
     )
 

@@ -2,7 +2,7 @@
 use borrow.Author.Rules.{rules}
 use mathlib.Core.Bool.{and_comm}
 use lib.Dec.{leb}
-use Rattle.records.specs.Judging.{isNothing, isSomething}
+use Rattle.records.specs.Judging.{is_nothing, is_something}
 use Rattle.records.proofs.Judged.{something}
 use Rattle.report.proofs.is_matched_in_range.Statement.{statement}
 use Rattle.report.proofs.is_matched_in_range.Tie as tie
@@ -34,7 +34,7 @@ returns-2 c = rw c.enum-told2.given.1 (something c.before.before.before.args.los
 returns-3 : tie.Need-returns-3
 returns-3 c =
     let b = c.before.before.before in
-    rw (c.before.supply.given.1, b.is-nothing.ensures) (and_comm (isNothing b.before.args.loss) (leb c.before.supply.given.0.0 3))
+    rw (c.before.supply.given.1, b.is-nothing.ensures) (and_comm (is_nothing b.before.args.loss) (leb c.before.supply.given.0.0 3))
 
 returns-4 : tie.Need-returns-4
 returns-4 c = search rules
@@ -43,7 +43,7 @@ returns-5 : tie.Need-returns-5
 returns-5 c =
     let b = c.before.before.before in
     let l = b.before.args.loss in
-    rw (c.before.supply2.given.1, something l _ b.is-nothing.ensures) (and_comm (isSomething l) (leb c.before.supply2.given.0.0 3))
+    rw (c.before.supply2.given.1, something l _ b.is-nothing.ensures) (and_comm (is_something l) (leb c.before.supply2.given.0.0 3))
 
 pub is-matched-in-range-spec : {M : Type 1} → statement M
 is-matched-in-range-spec =

@@ -11,27 +11,27 @@ use lib.ListN.{length, get_or, take, drop}
 use Rattle.rounding.specs.Outcome.{refused, given}
 use Rattle.rounding.specs.declared.Direction.{Direction}
 use Rattle.rounding.specs.declared.Direction.TheVariants.{Up, Down}
-use Rattle.fuel.specs.Fuel.{noLine, withinLimits, roundedMilligrams, lineMilligrams, milligramsMeaning}
+use Rattle.fuel.specs.Fuel.{no_line, within_limits, rounded_milligrams, line_milligrams, milligrams_meaning}
 use Rattle.fuel.specs.declared.FuelLine.{FuelLine}
 use Rattle.fuel.proofs.Fuel.{line-gave, line-beyond, line-bound}
-use Rattle.records.specs.Judging.{allWithinLimits}
-use Rattle.records.proofs.Lines.{next-line, no_line, SumBefore, sum-start, sum-turn, sum-end}
-use Rattle.report.specs.Heat.{linesMilligrams}
-use Rattle.report.specs.Steps.{linesSummed}
+use Rattle.records.specs.Judging.{all_within_limits}
+use Rattle.records.proofs.Lines.{next-line, no_line_lem, SumBefore, sum-start, sum-turn, sum-end}
+use Rattle.report.specs.Heat.{lines_milligrams}
+use Rattle.report.specs.Steps.{lines_summed}
 use Rattle.report.specs.declared.LinesSummed.TheVariants.{Damaged}
 use Rattle.report.proofs.lines_summed.Statement.{statement}
 use Rattle.report.proofs.lines_summed.Tie as tie
 
 -- The milligrams of the lines before line i, at most 3,000,000,000,000,000 mg a line.
 abbrev LinesBefore : Direction → List FuelLine → ℕ → ℕ → ℕ → Type 0
-LinesBefore dir ls n i total = SumBefore (roundedMilligrams dir) 3000000000000000 ls n i total
+LinesBefore dir ls n i total = SumBefore (rounded_milligrams dir) 3000000000000000 ls n i total
 
 abbrev invariant-loop : tie.invariant-loop
 invariant-loop count lines up₀ down₀ i₀ up down i =
     (i ≤ count)
     × LinesBefore Up lines count i up
     × LinesBefore Down lines count i down
-    × (allWithinLimits (drop i (take count lines)) ≡ allWithinLimits (take count lines))
+    × (all_within_limits (drop i (take count lines)) ≡ all_within_limits (take count lines))
 
 abbrev decreases-loop : tie.decreases-loop
 decreases-loop count lines up₀ down₀ i₀ up down i = count - i
@@ -42,48 +42,48 @@ room c = le_trans c.requires (le_of_eq (sym c.well-formed.0.1.0.1))
 
 -- The line in its turn, and what follows where it is found to be within its limits or not.
 abbrev line : tie.In-loop invariant-loop decreases-loop → FuelLine
-line c = get_or c.before.before.args.t1 c.before.loop.i noLine
+line c = get_or c.before.before.args.t1 c.before.loop.i no_line
 
-turn : (c : tie.In-loop invariant-loop decreases-loop) (t : Bool) → withinLimits (line c) ≡ t
+turn : (c : tie.In-loop invariant-loop decreases-loop) (t : Bool) → within_limits (line c) ≡ t
     → let a = c.before.before.args in
-    (t && allWithinLimits (drop (c.before.loop.i + 1) (take a.count a.t1))) ≡ allWithinLimits (take a.count a.t1)
+    (t && all_within_limits (drop (c.before.loop.i + 1) (take a.count a.t1))) ≡ all_within_limits (take a.count a.t1)
 turn c t e =
     let a = c.before.before.args in
-    sym (next-line withinLimits a.t1 a.count c.before.loop.i noLine t c.loop-test.true (room c.before.before) e) ∙ c.before.loop.invariant.3
+    sym (next-line within_limits a.t1 a.count c.before.loop.i no_line t c.loop-test.true (room c.before.before) e) ∙ c.before.loop.invariant.3
 
-damaged : (c : tie.In-loop invariant-loop decreases-loop) (dir : Direction) → lineMilligrams dir (line c) ≡ refused 2
+damaged : (c : tie.In-loop invariant-loop decreases-loop) (dir : Direction) → line_milligrams dir (line c) ≡ refused 2
     → let a = c.before.before.args in
-    Damaged ≡ linesSummed (take a.count a.t1)
+    Damaged ≡ lines_summed (take a.count a.t1)
 damaged c dir e = rw (sym (turn c false (line-beyond dir (line c) 2 e)))
 
 -- What it gave in each direction.
 abbrev in-turn : tie.After-known-told2 invariant-loop decreases-loop → tie.In-loop invariant-loop decreases-loop
 in-turn c = c.before.before.before.before.before.before.before.before
 
-more : (c : tie.After-known-told2 invariant-loop decreases-loop) → lineMilligrams Up (line (in-turn c)) ≡ given c.before.before.before.before.rounded-up.given.0.0
+more : (c : tie.After-known-told2 invariant-loop decreases-loop) → line_milligrams Up (line (in-turn c)) ≡ given c.before.before.before.before.rounded-up.given.0.0
 more c =
     let b = c.before.before.before.before in
-    sym b.before.before.milligrams.ensures.0 ∙ ap milligramsMeaning b.rounded-up.given.1
+    sym b.before.before.milligrams.ensures.0 ∙ ap milligrams_meaning b.rounded-up.given.1
 
-less : (c : tie.After-known-told2 invariant-loop decreases-loop) → lineMilligrams Down (line (in-turn c)) ≡ given c.before.rounded-down.given.0.0
+less : (c : tie.After-known-told2 invariant-loop decreases-loop) → line_milligrams Down (line (in-turn c)) ≡ given c.before.rounded-down.given.0.0
 less c =
-    sym c.before.before.before.before.before.before.milligrams.ensures.1 ∙ ap milligramsMeaning c.before.rounded-down.given.1
+    sym c.before.before.before.before.before.before.milligrams.ensures.1 ∙ ap milligrams_meaning c.before.rounded-down.given.1
 
 -- What is summed up after the line.
 summed-on : (c : tie.In-loop invariant-loop decreases-loop) (dir : Direction) (s w : ℕ)
     → let a = c.before.before.args in
-    LinesBefore dir a.t1 a.count c.before.loop.i s → lineMilligrams dir (line c) ≡ given w
+    LinesBefore dir a.t1 a.count c.before.loop.i s → line_milligrams dir (line c) ≡ given w
     → LinesBefore dir a.t1 a.count (c.before.loop.i + 1) (s + w)
 summed-on c dir s w h e =
     let a = c.before.before.args in
     let g = line-gave dir (line c) w e in
-    sum-turn (roundedMilligrams dir) 3000000000000000 a.t1 a.count c.before.loop.i s (room c.before.before) h noLine w
+    sum-turn (rounded_milligrams dir) 3000000000000000 a.t1 a.count c.before.loop.i s (room c.before.before) h no_line w
     c.loop-test.true g.1 (omega (arith, g.1, line-bound dir (line c) g.0))
 
 loop-holds : tie.Need-loop-init invariant-loop decreases-loop
 loop-holds c =
     let start : (dir : Direction) → LinesBefore dir c.args.t1 c.args.count 0 0 =
-    λ dir. sum-start (roundedMilligrams dir) 3000000000000000 c.args.t1 c.args.count in
+    λ dir. sum-start (rounded_milligrams dir) 3000000000000000 c.args.t1 c.args.count in
     (zero-le, start Up, start Down, refl)
 
 mul-line : tie.Need-overflow-mul-line invariant-loop decreases-loop
@@ -104,7 +104,7 @@ enum_told c = search rules
 returns : tie.Need-returns invariant-loop decreases-loop
 returns c =
     let b = c.before.before in
-    (damaged b.before.before Up (sym b.milligrams.ensures.0 ∙ ap milligramsMeaning c.enum_told.given.1), tt)
+    (damaged b.before.before Up (sym b.milligrams.ensures.0 ∙ ap milligrams_meaning c.enum_told.given.1), tt)
 
 enum-known-rounded-down : tie.Need-enum-known-rounded-down invariant-loop decreases-loop
 enum-known-rounded-down c = search rules
@@ -115,7 +115,7 @@ enum-told-2 c = search rules
 returns-2 : tie.Need-returns-2 invariant-loop decreases-loop
 returns-2 c =
     let b = c.before.before.before.before.before in
-    (damaged b.before.before Down (sym b.milligrams.ensures.1 ∙ ap milligramsMeaning c.enum-told2.given.1), tt)
+    (damaged b.before.before Down (sym b.milligrams.ensures.1 ∙ ap milligrams_meaning c.enum-told2.given.1), tt)
 
 add-up : tie.Need-overflow-add-up invariant-loop decreases-loop
 add-up c =
@@ -144,7 +144,7 @@ loop-again c =
     )
 
 returns-3 : tie.Need-returns-3 invariant-loop decreases-loop
-unfolding linesMilligrams
+unfolding lines_milligrams
 returns-3 c =
     let b = c.before in
     let a = b.before.args in
@@ -154,9 +154,9 @@ returns-3 c =
     let r = room b.before in
     let n = b.before.requires in (
       rw (
-        sym k.3 ∙ no_line withinLimits a.t1 a.count i h r,
-        sum-end (roundedMilligrams Up) 3000000000000000 a.t1 a.count i _ r k.1 h,
-        sum-end (roundedMilligrams Down) 3000000000000000 a.t1 a.count i _ r k.2 h,
+        sym k.3 ∙ no_line_lem within_limits a.t1 a.count i h r,
+        sum-end (rounded_milligrams Up) 3000000000000000 a.t1 a.count i _ r k.1 h,
+        sum-end (rounded_milligrams Down) 3000000000000000 a.t1 a.count i _ r k.2 h,
       ),
       (omega (arith, n, k.0, k.1.bound), omega (arith, n, k.0, k.2.bound)),
     )

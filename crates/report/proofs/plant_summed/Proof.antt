@@ -11,11 +11,11 @@ use lib.ListN.{take}
 use Rattle.rounding.specs.declared.Direction.TheVariants.{Up, Down}
 use Rattle.rounding.proofs.Tests.{and_both, tested}
 use Rattle.records.specs.declared.Plant.{Plant}
-use Rattle.records.specs.Judging.{lines_of, allWithinLimits}
+use Rattle.records.specs.Judging.{lines_of, all_within_limits}
 use Rattle.records.proofs.Judged.{plant-site, plant-figures, plant-lines}
-use Rattle.report.specs.Heat.{linesMilligrams, electricityMilligrams}
-use Rattle.report.specs.Intact.{plantIntact}
-use Rattle.report.specs.Report.{plain_of, plantMilligrams}
+use Rattle.report.specs.Heat.{lines_milligrams, electricity_milligrams}
+use Rattle.report.specs.Intact.{plant_intact}
+use Rattle.report.specs.Report.{plain_of, plant_milligrams}
 use Rattle.report.specs.Steps.{LinesWithin, ElectricityWithin}
 use Rattle.report.proofs.Summing.{lines-gave, lines-damaged, electricity-damaged, electricity-is}
 use Rattle.report.proofs.plant_summed.Statement.{statement}
@@ -35,7 +35,7 @@ at-lines c = c.before.before.before.before
 gave : (c : tie.After-known-told)
     → let p = plant (at-lines c) in
     let s = c.before.sums.given.0.0 in
-    (allWithinLimits (lines_of p) ≡ true) × (s.up ≡ linesMilligrams Up (lines_of p)) × (s.down ≡ linesMilligrams Down (lines_of p))
+    (all_within_limits (lines_of p) ≡ true) × (s.up ≡ lines_milligrams Up (lines_of p)) × (s.down ≡ lines_milligrams Down (lines_of p))
 unfolding lines_of
 gave c = lines-gave _ _ (sym c.before.sums.given.1 ∙ c.before.before.before.lines-summed.ensures.0)
 
@@ -92,7 +92,7 @@ cast-t11 : tie.Need-overflow-cast-t11
 cast-t11 c = search rules
 
 returns-5 : tie.Need-returns-5
-unfolding plantMilligrams electricityMilligrams
+unfolding plant_milligrams electricity_milligrams
 returns-5 c =
     let d = c.before.before in
     let b = d.before.before.before in

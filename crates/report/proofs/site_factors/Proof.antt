@@ -10,17 +10,17 @@ use Rattle.rounding.specs.declared.Direction.{Direction}
 use Rattle.rounding.proofs.Outcomes.{never-given}
 use Rattle.emissions.specs.declared.FactorJudged.{FactorJudged}
 use Rattle.emissions.proofs.Factors.{captive-given}
-use Rattle.report.specs.Steps.{noPlants, milligramsIn, in_row, RowOf, TableOf, CaptiveWithin, TableWithin}
+use Rattle.report.specs.Steps.{no_plants, milligrams_in, in_row, RowOf, TableOf, CaptiveWithin, TableWithin}
 use Rattle.report.specs.declared.SiteSums.{SiteSums}
 use Rattle.report.proofs.site_factors.Statement.{statement}
 use Rattle.report.proofs.site_factors.Tie as tie
 
 -- The factors of a row are within the limit.
 row_within : (s : SiteSums) (row : List FactorJudged) → RowOf s row → (dir : Direction) → CaptiveWithin (in_row row dir)
-row_within s row h dir F e = (captive-given dir (milligramsIn dir s) s.generation F (sym (h dir) ∙ e)).2
+row_within s row h dir F e = (captive-given dir (milligrams_in dir s) s.generation F (sym (h dir) ∙ e)).2
 
 module _ (sites : List SiteSums) (a b c d : List FactorJudged)
-    (ra : RowOf (get_or sites 0 noPlants) a) (rb : RowOf (get_or sites 1 noPlants) b) (rc : RowOf (get_or sites 2 noPlants) c) (rd : RowOf (get_or sites 3 noPlants) d) where
+    (ra : RowOf (get_or sites 0 no_plants) a) (rb : RowOf (get_or sites 1 no_plants) b) (rc : RowOf (get_or sites 2 no_plants) c) (rd : RowOf (get_or sites 3 no_plants) d) where
   rows : TableOf sites (a ∷ b ∷ c ∷ d ∷ [])
   rows zero h = ra
   rows (suc zero) h = rb

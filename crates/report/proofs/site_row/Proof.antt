@@ -3,16 +3,16 @@ use borrow.Author.Rules.{rules}
 use mathlib.Core.Path.{◌≡◌}
 use mathlib.Core.List.{[], ◌∷◌}
 use Rattle.rounding.specs.declared.Direction.TheVariants.{Up, Down}
-use Rattle.emissions.specs.Answers.{factorMeaning}
-use Rattle.emissions.specs.Factor.{captiveJudged}
+use Rattle.emissions.specs.Answers.{factor_meaning}
+use Rattle.emissions.specs.Factor.{captive_judged}
 use Rattle.emissions.specs.declared.FactorJudged.{FactorJudged}
 use Rattle.report.specs.Steps.{RowOf}
 use Rattle.report.specs.declared.SiteSums.{SiteSums}
 use Rattle.report.proofs.site_row.Statement.{statement}
 use Rattle.report.proofs.site_row.Tie as tie
 
-both : (s : SiteSums) (u d : FactorJudged) → factorMeaning u ≡ captiveJudged Up s.up s.generation
-    → factorMeaning d ≡ captiveJudged Down s.down s.generation → RowOf s (u ∷ d ∷ [])
+both : (s : SiteSums) (u d : FactorJudged) → factor_meaning u ≡ captive_judged Up s.up s.generation
+    → factor_meaning d ≡ captive_judged Down s.down s.generation → RowOf s (u ∷ d ∷ [])
 both s u d e f Up = e
 both s u d e f Down = f
 

@@ -8,21 +8,21 @@ use mathlib.Core.Logic.{⊎_elim}
 use Prim.Native.Nat.{ℕ, ◌+◌, ◌-◌, ◌≤◌, ◌<◌, zero-le}
 use native.Mathlib.Omega.{arith}
 use lib.ListN.{length, get_or, replicate, get_or-replicate, length-set}
-use Rattle.records.specs.Judging.{lastSite}
-use Rattle.records.specs.Records.{plantPlace}
-use Rattle.report.specs.Intact.{plantIntact, allIntact}
+use Rattle.records.specs.Judging.{last_site}
+use Rattle.records.specs.Records.{plant_place}
+use Rattle.report.specs.Intact.{plant_intact, all_intact}
 use Rattle.report.specs.Report.{plain_of}
-use Rattle.report.specs.Steps.{noPlants, plantSums, SiteWithin, PlantWithin}
-use Rattle.report.proofs.Summing.{plant-stands, no-plant-stands, intact-next, not-intact, addedSums, plant-site-fits, plant-gave, plant-damaged, sums-widen, SiteSummed, site-start, site-kept, site-end, sites-turn}
+use Rattle.report.specs.Steps.{no_plants, plant_sums, SiteWithin, PlantWithin}
+use Rattle.report.proofs.Summing.{plant-stands, no-plant-stands, intact-next, not-intact, added_sums, plant-site-fits, plant-gave, plant-damaged, sums-widen, SiteSummed, site-start, site-kept, site-end, sites-turn}
 use Rattle.report.proofs.site_sums.Statement.{statement}
 use Rattle.report.proofs.site_sums.Tie as tie
 
 abbrev invariant-loop : tie.invariant-loop
 invariant-loop plants sites₀ i₀ sites i =
     (i ≤ 8)
-    × (allIntact plantIntact (plantPlace plants) i ≡ true)
+    × (all_intact plant_intact (plant_place plants) i ≡ true)
     × (length sites ≡ 4)
-    × ((S : ℕ) → S ≤ lastSite → SiteSummed S (plantPlace plants) 8 i (get_or sites S noPlants))
+    × ((S : ℕ) → S ≤ last_site → SiteSummed S (plant_place plants) 8 i (get_or sites S no_plants))
 
 abbrev decreases-loop : tie.decreases-loop
 decreases-loop plants sites₀ i₀ sites i = 8 - i
@@ -34,7 +34,7 @@ inside c = rw c.before.before.before.well-formed.0.1.0.1 c.loop-test.true
 -- The plant that stands under the number.
 stands : (c : tie.After-plant invariant-loop decreases-loop)
     → let l = c.before.before.before.before in
-    plantPlace l.before.before.args.t1 l.loop.i ≡ some c.plant.result
+    plant_place l.before.before.args.t1 l.loop.i ≡ some c.plant.result
 stands c =
     let l = c.before.before.before.before in
     plant-stands l.before.before.args.t1 l.loop.i _ _ (inside c.before.before.before) c.before.if1.true c.plant.ensures
@@ -42,7 +42,7 @@ stands c =
 -- What is summed up of it.
 gave : (c : tie.After-known-told invariant-loop decreases-loop)
     → let p = c.before.before.before.before.plant.result in
-    (plantIntact (some p) ≡ true) × (c.before.more.given.0.0 ≡ plantSums (plain_of p))
+    (plant_intact (some p) ≡ true) × (c.before.more.given.0.0 ≡ plant_sums (plain_of p))
 gave c =
     let b = c.before.before.before in
     plant-gave b.before.plant.result _ (sym c.before.more.given.1 ∙ b.plant-summed.ensures.0)
@@ -57,15 +57,15 @@ empty-requires : tie.Need-empty-requires invariant-loop decreases-loop
 empty-requires c κs = search rules
 
 loop-holds : tie.Need-loop-init invariant-loop decreases-loop
-unfolding allIntact
+unfolding all_intact
 loop-holds c =
     let rs = c.before.args.t1 in
-    let none-at : (S : ℕ) → S < 4 → noPlants ≡ get_or (replicate 4 c.empty.result) S noPlants =
-    λ S h. sym (get_or-replicate 4 S c.empty.result noPlants h ∙ c.empty.ensures) in (
+    let none-at : (S : ℕ) → S < 4 → no_plants ≡ get_or (replicate 4 c.empty.result) S no_plants =
+    λ S h. sym (get_or-replicate 4 S c.empty.result no_plants h ∙ c.empty.ensures) in (
       zero-le,
       refl,
       refl,
-      λ S h. subst (SiteSummed S (plantPlace rs) 8 0) (none-at S (omega arith)) (site-start S (plantPlace rs) 8),
+      λ S h. subst (SiteSummed S (plant_place rs) 8 0) (none-at S (omega arith)) (site-start S (plant_place rs) 8),
     )
 
 mul-held : tie.Need-overflow-mul-held invariant-loop decreases-loop
@@ -91,8 +91,8 @@ returns c =
     let b = c.before.before in
     let l = b.before.before.before.before.before in
     let damaged = plant-damaged b.before.plant.result (sym c.enum_told.given.1 ∙ b.plant-summed.ensures.0) in (
-      sym (not-intact plantIntact (plantPlace l.before.before.args.t1) 8 l.loop.i b.before.before.before.before.loop-test.true
-          (ap plantIntact (stands b.before) ∙ damaged)),
+      sym (not-intact plant_intact (plant_place l.before.before.args.t1) 8 l.loop.i b.before.before.before.before.loop-test.true
+          (ap plant_intact (stands b.before) ∙ damaged)),
       λ e. absurd (true≢false (sym e)),
     )
 
@@ -129,8 +129,8 @@ loop-again c =
     let rs = l.before.before.args.t1 in
     let i = l.loop.i in
     let h = c.before.before.loop-test.true in
-    let intact : plantIntact (plantPlace rs i) ≡ true → allIntact plantIntact (plantPlace rs) (i + 1) ≡ true =
-    λ e. intact-next plantIntact (plantPlace rs) i e l.loop.invariant.1 in
+    let intact : plant_intact (plant_place rs i) ≡ true → all_intact plant_intact (plant_place rs) (i + 1) ≡ true =
+    λ e. intact-next plant_intact (plant_place rs) i e l.loop.invariant.1 in
     ⊎_elim
     (λ w.
     let a : tie.After-plant invariant-loop decreases-loop = record { before = record { before = c.before; if1 = w.0 }; plant = w.1 } in
@@ -139,25 +139,25 @@ loop-again c =
     let p = w.1.result in
     rw (w.9, w.8.ensures, (gave b).1) (
       search rules,
-      intact (ap plantIntact (stands a) ∙ (gave b).0),
+      intact (ap plant_intact (stands a) ∙ (gave b).0),
       length-set l.loop.sites p.site _ ∙ l.loop.invariant.2,
-      λ S m. sites-turn (plantPlace rs) 8 i l.loop.sites p h (stands a) (omega (arith, l.loop.invariant.2, site-fits b))
+      λ S m. sites-turn (plant_place rs) 8 i l.loop.sites p h (stands a) (omega (arith, l.loop.invariant.2, site-fits b))
           (subst (SiteWithin 1) (gave b).1 (within b)) S (l.loop.invariant.3 S m),
     ))
     (λ w.
     let e = no-plant-stands rs i _ (inside c.before.before) w.0.left in
     rw w.1 (
       search rules,
-      intact (ap plantIntact e),
+      intact (ap plant_intact e),
       l.loop.invariant.2,
-      λ S m. site-kept S (plantPlace rs) 8 i _ (l.loop.invariant.3 S m) h (ap (addedSums S) e),
+      λ S m. site-kept S (plant_place rs) 8 i _ (l.loop.invariant.3 S m) h (ap (added_sums S) e),
     ))
     c.if1.branch
 
 returns-2 : tie.Need-returns-2 invariant-loop decreases-loop
 returns-2 c =
     let l = c.before in
-    let place = plantPlace l.before.before.args.t1 in
+    let place = plant_place l.before.before.args.t1 in
     let i : l.loop.i ≡ 8 = omega (arith, l.loop.invariant.0, c.loop-test.false) in
     (sym (rw i at l.loop.invariant.1), λ e S h. site-end S place 8 l.loop.i _ (l.loop.invariant.3 S h) c.loop-test.false)
 

@@ -5,10 +5,10 @@ use mathlib.Core.Option.{some, some-injective}
 use Prim.Native.Nat.{◌≤◌}
 use Rattle.metering.specs.Reading.{limit}
 use Rattle.rounding.specs.Outcome.{refused}
-use Rattle.emissions.specs.Factor.{factorLimit, chosen, factorIn}
-use Rattle.emissions.specs.Loss.{lossOf}
-use Rattle.emissions.specs.Answers.{factorMeaning, factorRefusal, lossMeaning, lossRefusal, emissionsMeaning}
-use Rattle.emissions.specs.Figure.{energyWithLosses, gramsOf}
+use Rattle.emissions.specs.Factor.{factor_limit, chosen, factor_in}
+use Rattle.emissions.specs.Loss.{loss_of}
+use Rattle.emissions.specs.Answers.{factor_meaning, factor_refusal, loss_meaning, loss_refusal, emissions_meaning}
+use Rattle.emissions.specs.Figure.{energy_with_losses, grams_of}
 use Rattle.emissions.specs.declared.FactorJudged.{FactorJudged}
 use Rattle.emissions.specs.declared.LossJudged.{LossJudged}
 use Rattle.emissions.specs.declared.Emissions.{Emissions}
@@ -30,8 +30,8 @@ factor-requires c κs = search rules
 factored : (c : tie.After-factor) (j : FactorJudged) → c.factor.result ≡ j
     → let b = c.before in
     let a = b.before.args in
-    factorIn (chosen b.direction.result a.grid (λ S. factorMeaning a.captive) a.totals.factor a.source.supply) ≡ factorMeaning j
-factored c j e = sym c.factor.ensures ∙ ap factorMeaning e
+    factor_in (chosen b.direction.result a.grid (λ S. factor_meaning a.captive) a.totals.factor a.source.supply) ≡ factor_meaning j
+factored c j e = sym c.factor.ensures ∙ ap factor_meaning e
 
 enum-known-judged : tie.Need-enum-known-judged
 enum-known-judged c = search rules
@@ -47,7 +47,7 @@ returns c =
     let b = c.before.before.before in
     let a = b.before.before.args in
     let told = c.before.enum_told.given.1 in (
-      ap refused (c.refusal.ensures ∙ ap factorRefusal told)
+      ap refused (c.refusal.ensures ∙ ap factor_refusal told)
           ∙ no-factor a.grid _ a.totals a.source _ b.before.direction.ensures _ (factored b _ told),
       tt,
     )
@@ -58,8 +58,8 @@ judged-requires c κs = search rules
 opened : (c : tie.After-judged2) (j : LossJudged) → c.judged2.result ≡ j
     → let b = c.before.before.before.before.before in
     let a = b.before.args in
-    lossOf b.direction.result a.totals.loss a.source.loss ≡ lossMeaning j
-opened c j e = sym c.judged2.ensures ∙ ap lossMeaning e
+    loss_of b.direction.result a.totals.loss a.source.loss ≡ loss_meaning j
+opened c j e = sym c.judged2.ensures ∙ ap loss_meaning e
 
 enum-known-open : tie.Need-enum-known-open
 enum-known-open c = search rules
@@ -76,7 +76,7 @@ returns-2 c =
     let b = l.before.before.before.before in
     let a = b.before.before.args in
     let told = c.before.enum-told2.given.1 in (
-      ap refused (c.refusal2.ensures ∙ ap lossRefusal told)
+      ap refused (c.refusal2.ensures ∙ ap loss_refusal told)
           ∙ no-loss a.grid _ a.totals a.source _ b.before.direction.ensures _
           (factored b _ l.before.before.judged.given.1) _ (opened l _ told),
       tt,
@@ -87,7 +87,7 @@ limits : (c : tie.After-known-told2)
     → let a = c.before.before.before.before.before.before.before.before.before.args in
     (a.source.energy ≤ limit)
     × (c.before.«open».given.0.0 ≤ 5000)
-    × (c.before.before.before.before.before.judged.given.0.0 ≤ factorLimit)
+    × (c.before.before.before.before.before.judged.given.0.0 ≤ factor_limit)
 limits c =
     let l = c.before.before.before in
     let b = l.before.before.before.before in
@@ -109,11 +109,11 @@ worked : (c : tie.After-emissions-of) (j : EmissionsJudged) → c.emissions-of.r
     let b = l.before.before.before.before in
     let a = b.before.before.args in
     let dir = b.before.direction.result in
-    let U = energyWithLosses dir a.source.energy k.before.«open».given.0.0 in
-    emissionsMeaning j ≡ some (record { energy = U; grams = gramsOf dir U k.before.before.before.before.before.judged.given.0.0 })
+    let U = energy_with_losses dir a.source.energy k.before.«open».given.0.0 in
+    emissions_meaning j ≡ some (record { energy = U; grams = grams_of dir U k.before.before.before.before.before.judged.given.0.0 })
 worked c j e =
     let h = limits c.before in
-    sym (ap emissionsMeaning e) ∙ c.emissions-of.ensures ∙ emissions-within _ _ _ _ h.0 h.1 h.2
+    sym (ap emissions_meaning e) ∙ c.emissions-of.ensures ∙ emissions-within _ _ _ _ h.0 h.1 h.2
 
 enum-known-worked : tie.Need-enum-known-worked
 enum-known-worked c = search rules

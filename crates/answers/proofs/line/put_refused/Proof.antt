@@ -1,7 +1,7 @@
 -- `answers::line::put_refused` meets its contract: the puts in their order. Assumes nothing.
 use borrow.Author.Rules.{rules}
 use Rattle.text.proofs.Puts.{put_first, put_last}
-use Rattle.answers.specs.Answers.{replyParts}
+use Rattle.answers.specs.Answers.{reply_parts}
 use Rattle.answers.proofs.line.put_refused.Statement.{statement}
 use Rattle.answers.proofs.line.put_refused.Tie as tie
 
@@ -24,7 +24,7 @@ same_length : tie.Need-same-length
 same_length c = search rules
 
 returns : tie.Need-returns
-unfolding replyParts
+unfolding reply_parts
 returns c =
     let c3 = c.before.before in
     let c2 = c3.before.before.before.before.before in

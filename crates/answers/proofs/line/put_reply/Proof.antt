@@ -1,7 +1,7 @@
 -- `answers::line::put_reply` meets its contract: each case in turn. Assumes nothing.
 use borrow.Author.Rules.{rules}
 use Rattle.text.proofs.Puts.{put_first, put_last}
-use Rattle.answers.specs.Answers.{replyParts}
+use Rattle.answers.specs.Answers.{reply_parts}
 use Rattle.answers.proofs.line.put_reply.Statement.{statement}
 use Rattle.answers.proofs.line.put_reply.Tie as tie
 
@@ -45,7 +45,7 @@ same_length : tie.Need-same-length
 same_length c = search rules
 
 returns : tie.Need-returns
-unfolding replyParts
+unfolding reply_parts
 returns c = rw c.before.before.before.before.before.enum_told.given.1 (put_first _ _ _ _ c.before.before.put_word.ensures (put_last _))
 
 same-length-2 : tie.Need-same-length-2
@@ -64,14 +64,14 @@ same-length-4 : tie.Need-same-length-4
 same-length-4 c = search rules
 
 returns-4 : tie.Need-returns-4
-unfolding replyParts
+unfolding reply_parts
 returns-4 c = rw (c.before.before.before.before.before.reply3.given.1) c.before.before.put-report.ensures
 
 same-length-5 : tie.Need-same-length-5
 same-length-5 c = search rules
 
 returns-5 : tie.Need-returns-5
-unfolding replyParts
+unfolding reply_parts
 returns-5 c = rw c.before.before.before.before.before.enum-told2.given.1 (put_first _ _ _ _ c.before.before.put-word2.ensures (put_last _))
 
 pub put-reply-spec : {M : Type 1} → statement M

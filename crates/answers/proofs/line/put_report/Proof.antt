@@ -6,7 +6,7 @@ use mir.Syntax.{w64}
 use mir.ValLaws.{to_z-of_z}
 use Rattle.text.specs.Parts.{Placed}
 use Rattle.text.proofs.Puts.{put_first, put_all, put_last, parts-length}
-use Rattle.answers.specs.Answers.{reportParts}
+use Rattle.answers.specs.Answers.{report_parts}
 use Rattle.answers.proofs.line.put_report.Statement.{statement}
 use Rattle.answers.proofs.line.put_report.Tie as tie
 
@@ -44,7 +44,7 @@ put-word-requires-2 : tie.Need-put-word-requires-2
 put-word-requires-2 c κs = search rules
 
 returns : tie.Need-returns
-unfolding reportParts
+unfolding report_parts
 returns c =
     let c6 = c.before.before in
     let c5 = c6.before.before.before.before.before in

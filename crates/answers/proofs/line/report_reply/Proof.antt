@@ -1,7 +1,7 @@
 -- `answers::line::report_reply` meets its contract: each case in turn. Assumes nothing.
 use borrow.Author.Rules.{rules}
 use mathlib.Core.Path.{sym, ap}
-use Rattle.report.specs.Answers.{reportMeaning}
+use Rattle.report.specs.Answers.{report_meaning}
 use Rattle.answers.proofs.line.report_reply.Statement.{statement}
 use Rattle.answers.proofs.line.report_reply.Tie as tie
 
@@ -21,13 +21,13 @@ returns : tie.Need-returns
 returns c = search rules
 
 returns-2 : tie.Need-returns-2
-returns-2 c = ap reportMeaning (sym c.before.reported.given.1)
+returns-2 c = ap report_meaning (sym c.before.reported.given.1)
 
 returns-3 : tie.Need-returns-3
-returns-3 c = ap reportMeaning (sym c.before.reported2.given.1)
+returns-3 c = ap report_meaning (sym c.before.reported2.given.1)
 
 returns-4 : tie.Need-returns-4
-returns-4 c = ap reportMeaning (sym c.before.reported3.given.1)
+returns-4 c = ap report_meaning (sym c.before.reported3.given.1)
 
 pub report-reply-spec : {M : Type 1} → statement M
 report-reply-spec =

@@ -1,6 +1,6 @@
 -- `emissions::CombinedMargin::rounded` meets its contract: each arm by the margin that it knows. Assumes nothing.
 use borrow.Author.Rules.{rules}
-use Rattle.emissions.specs.Factor.{roundedCombined}
+use Rattle.emissions.specs.Factor.{rounded_combined}
 use Rattle.emissions.proofs.CombinedMargin.rounded.Statement.{statement}
 use Rattle.emissions.proofs.CombinedMargin.rounded.Tie as tie
 
@@ -17,7 +17,7 @@ mean-requires : tie.Need-mean-requires
 mean-requires c κs = search rules
 
 returns : tie.Need-returns
-unfolding roundedCombined
+unfolding rounded_combined
 returns c = rw c.before.self.given.1
 
 returns-2 : tie.Need-returns-2

@@ -2,8 +2,8 @@
 use borrow.Author.Rules.{rules}
 use mathlib.Core.Path.{◌≡◌, sym, ap, ◌∙◌}
 use borrow.Author.Tests.{eq-eqb, ne_eqb}
-use Rattle.emissions.specs.Grid.{gridJudged, sameRoundings, gridIntact}
-use Rattle.emissions.specs.Answers.{gridMeaning}
+use Rattle.emissions.specs.Grid.{grid_judged, same_roundings, grid_intact}
+use Rattle.emissions.specs.Answers.{grid_meaning}
 use Rattle.emissions.specs.declared.EnteredGrid.{EnteredGrid}
 use Rattle.emissions.specs.declared.GridJudged.{GridJudged}
 use Rattle.emissions.specs.declared.Grid.{Grid}
@@ -13,9 +13,9 @@ use Rattle.emissions.proofs.Grid.is_intact.Statement.{statement}
 use Rattle.emissions.proofs.Grid.is_intact.Tie as tie
 
 -- The grid that was found to be entered, and what its entry was judged to leave.
-judged-intact : {grid : Grid} {g : EnteredGrid} {j k : GridJudged} → grid ≡ Entered g → gridMeaning j ≡ gridJudged g.entry → j ≡ k
-    → gridIntact grid ≡ sameRoundings g (gridMeaning k)
-judged-intact {grid} {g} e h q = ap gridIntact e ∙ ap (sameRoundings g) (judged-as h q)
+judged-intact : {grid : Grid} {g : EnteredGrid} {j k : GridJudged} → grid ≡ Entered g → grid_meaning j ≡ grid_judged g.entry → j ≡ k
+    → grid_intact grid ≡ same_roundings g (grid_meaning k)
+judged-intact {grid} {g} e h q = ap grid_intact e ∙ ap (same_roundings g) (judged-as h q)
 
 enum-known-self : tie.Need-enum-known-self
 enum-known-self c = search rules

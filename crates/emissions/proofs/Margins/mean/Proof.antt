@@ -5,7 +5,7 @@ use native.Mathlib.Omega.{arith}
 use native.Mathlib.Nat.{mul-le-mul_right}
 use mir.Syntax.{w64}
 use mir.Val.{Fits}
-use Rattle.emissions.specs.Factor.{roundedCombined}
+use Rattle.emissions.specs.Factor.{rounded_combined}
 use Rattle.emissions.proofs.Margins.mean.Statement.{statement}
 use Rattle.emissions.proofs.Margins.mean.Tie as tie
 
@@ -46,7 +46,7 @@ divide-requires : tie.Need-divide-requires
 divide-requires c κs = search rules
 
 returns : tie.Need-returns
-unfolding roundedCombined
+unfolding rounded_combined
 returns c = c.divide.ensures
 
 pub mean-spec : {M : Type 1} → statement M

@@ -7,10 +7,10 @@ use Prim.Native.Nat.{◌-◌, ◌≤◌}
 use native.Mathlib.Nat.{sub-zero}
 use native.Mathlib.Omega.{arith}
 use lib.ListN.{length, drop}
-use Rattle.metering.specs.Energy.{noMeter}
+use Rattle.metering.specs.Energy.{no_meter}
 use Rattle.forms.specs.Reading as reading
-use Rattle.forms.specs.Calls.{fittedMeterOf}
-use Rattle.forms.specs.Steps.{meterMeaning, kept_at}
+use Rattle.forms.specs.Calls.{fitted_meter_of}
+use Rattle.forms.specs.Steps.{meter_meaning, kept_at}
 use Rattle.forms.proofs.Lists.{meters-take, within-length, Amounts, left-whole, left_end, left-none, left_one}
 use Rattle.forms.proofs.list.read_meters.Statement.{statement}
 use Rattle.forms.proofs.list.read_meters.Tie as tie
@@ -18,8 +18,8 @@ use Rattle.forms.proofs.list.read_meters.Tie as tie
 abbrev invariant-loop : tie.invariant-loop
 invariant-loop line at meters₀ count₀ next₀ meters count next =
     (count ≤ length line)
-    × Amounts fittedMeterOf noMeter (reading.manyOf reading.meters (drop at line)) count meters
-    (reading.manyWithin reading.meters (length line - count) (drop next line))
+    × Amounts fitted_meter_of no_meter (reading.many_of reading.meters (drop at line)) count meters
+    (reading.many_within reading.meters (length line - count) (drop next line))
 
 abbrev decreases-loop : tie.decreases-loop
 decreases-loop line at meters₀ count₀ next₀ meters count next = length line - count
@@ -30,7 +30,7 @@ empty-requires c κs = search rules
 loop-holds : tie.Need-loop-init invariant-loop decreases-loop
 loop-holds c =
     let a = c.before.before.args in
-    rw c.empty.ensures (omega arith, left-whole reading.meters fittedMeterOf noMeter _ _ (rw sub-zero (within-length reading.meters meters-take a.line.now a.at)))
+    rw c.empty.ensures (omega arith, left-whole reading.meters fitted_meter_of no_meter _ _ (rw sub-zero (within-length reading.meters meters-take a.line.now a.at)))
 
 read-meter-requires : tie.Need-read-meter-requires invariant-loop decreases-loop
 read-meter-requires c κs = search rules
@@ -63,22 +63,22 @@ loop-again c =
     in (
       omega arith,
       rw k
-          (left_one reading.meters fittedMeterOf noMeter _ l.count l.meters _ _ s _ _ m.0.1.0 (omega arith)
-          (sym (ap (meterMeaning s) m.1) ∙ c.before.before.before.before.read-meter.ensures)
+          (left_one reading.meters fitted_meter_of no_meter _ l.count l.meters _ _ s _ _ m.0.1.0 (omega arith)
+          (sym (ap (meter_meaning s) m.1) ∙ c.before.before.before.before.read-meter.ensures)
           l.invariant.1),
     )
 
 returns : tie.Need-returns invariant-loop decreases-loop
 returns c =
     let l = c.before.loop in
-    left_end reading.meters fittedMeterOf noMeter _ l.count l.meters _ _ (omega arith) l.invariant.1
+    left_end reading.meters fitted_meter_of no_meter _ l.count l.meters _ _ (omega arith) l.invariant.1
 
 returns-2 : tie.Need-returns-2 invariant-loop decreases-loop
 returns-2 c =
     let s = c.before.before.before.before.before.before.before.args.line.now in
     let l = c.before.before.before.before.loop in
-    left-none reading.meters fittedMeterOf noMeter _ l.count l.meters _ _
-    (sym (ap (meterMeaning s) c.enum_told.given.1) ∙ c.before.before.read-meter.ensures)
+    left-none reading.meters fitted_meter_of no_meter _ l.count l.meters _ _
+    (sym (ap (meter_meaning s) c.enum_told.given.1) ∙ c.before.before.read-meter.ensures)
     l.invariant.1
 
 pub read-meters-spec : {M : Type 1} → statement M

@@ -4,9 +4,9 @@ use mathlib.Core.Path.{sym, ap, ◌∙◌}
 use mathlib.Core.List.{List}
 use Prim.Native.Nat.{ℕ}
 use lib.ListN.{drop}
-use Rattle.text.specs.Template.{mapRead}
+use Rattle.text.specs.Template.{map_read}
 use Rattle.forms.specs.Reading.{fuels}
-use Rattle.forms.specs.Calls.{fittedLine}
+use Rattle.forms.specs.Calls.{fitted_line}
 use Rattle.forms.proofs.Rows.{Left, row-passed, row_read, no_row}
 use Rattle.forms.proofs.part.read_fuel.Statement.{statement}
 use Rattle.forms.proofs.part.read_fuel.Tie as tie
@@ -38,7 +38,7 @@ unfolding fuels
 returns c =
     rw (c.before.before.word-field.ensures, c.before.word-field2.ensures, c.word-field3.ensures)
     (sym
-    (ap (mapRead fittedLine)
+    (ap (map_read fitted_line)
     (row_read _ _ _ _ _ c.before.before.before.before.before.before.read-template.ensures _ _
     c.before.before.before.before.numbers.given.1)))
 
@@ -69,7 +69,7 @@ unfolding fuels
 returns-2 c =
     rw (c.before.word-field4.ensures, c.word-field5.ensures)
     (sym
-    (ap (mapRead fittedLine)
+    (ap (map_read fitted_line)
     (left-1 c.before.before.before.before.before.before.before
     ∙ row_read _ _ _ _ _ c.before.before.before.before.before.read-template2.ensures _ _
     c.before.before.before.numbers2.given.1)))
@@ -104,7 +104,7 @@ unfolding fuels
 returns-3 c =
     rw (c.before.before.word-field6.ensures, c.before.word-field7.ensures, c.word-field8.ensures)
     (sym
-    (ap (mapRead fittedLine)
+    (ap (map_read fitted_line)
     (left-2 c.before.before.before.before.before.before.before.before
     ∙ row_read _ _ _ _ _ c.before.before.before.before.before.before.read-template3.ensures _ _
     c.before.before.before.before.numbers3.given.1)))
@@ -116,7 +116,7 @@ returns-4 : tie.Need-returns-4
 unfolding fuels
 returns-4 c =
     sym
-    (ap (mapRead fittedLine)
+    (ap (map_read fitted_line)
     (left-2 c.before.before.before.before
     ∙ row-passed _ _ _ _ _ c.before.before.read-template3.ensures c.enum-told3.given.1
     ∙ no_row _))

@@ -5,7 +5,7 @@ use mathlib.Core.List.{List}
 use mathlib.Core.Option.{none, some}
 use Prim.Native.Nat.{ℕ}
 use lib.ListN.{drop}
-use Rattle.forms.specs.Reading.{orLeftOut, optionalOf, heats}
+use Rattle.forms.specs.Reading.{or_left_out, optional_of, heats}
 use Rattle.forms.proofs.Rows.{row-passed, row_read, no_row}
 use Rattle.forms.proofs.part.read_heat.Statement.{statement}
 use Rattle.forms.proofs.part.read_heat.Tie as tie
@@ -24,9 +24,9 @@ enum-known-numbers : tie.Need-enum-known-numbers
 enum-known-numbers c = search rules
 
 heat-there : (p : tie.After-numbers) → let s = p.before.before.before.before.before.args.line.now in let n = p.numbers.given.0 in
-    optionalOf heats (text p.before.before.before.before.before) ≡ record { value = some n.0.first; rest = drop n.1.0 s }
+    optional_of heats (text p.before.before.before.before.before) ≡ record { value = some n.0.first; rest = drop n.1.0 s }
 unfolding heats
-heat-there p = ap (orLeftOut _) (row_read _ _ _ _ _ p.before.before.read-template.ensures _ _ p.numbers.given.1)
+heat-there p = ap (or_left_out _) (row_read _ _ _ _ _ p.before.before.read-template.ensures _ _ p.numbers.given.1)
 
 returns : tie.Need-returns
 returns c = let e = heat-there c.before in (rw e, rw e)
@@ -35,9 +35,9 @@ enum_told : tie.Need-enum-told
 enum_told c = search rules
 
 heat-left-out : (p : tie.After-enum-told) → let t = text p.before.before.before.before.before in
-    optionalOf heats t ≡ record { value = none; rest = t }
+    optional_of heats t ≡ record { value = none; rest = t }
 unfolding heats
-heat-left-out p = ap (orLeftOut _) (row-passed _ _ _ _ _ p.before.before.read-template.ensures p.enum_told.given.1 ∙ no_row _)
+heat-left-out p = ap (or_left_out _) (row-passed _ _ _ _ _ p.before.before.read-template.ensures p.enum_told.given.1 ∙ no_row _)
 
 returns-2 : tie.Need-returns-2
 returns-2 c = let e = heat-left-out c in (rw e, rw e)

@@ -2,7 +2,7 @@
 use borrow.Author.Rules.{rules}
 use mathlib.Core.Path.{sym, ap, ◌∙◌}
 use Rattle.forms.specs.Reading.{kinds}
-use Rattle.forms.specs.Steps.{kindMeaning}
+use Rattle.forms.specs.Steps.{kind_meaning}
 use Rattle.forms.proofs.Rows.{first-row, after-row, last_row}
 use Rattle.forms.proofs.part.read_kind.Statement.{statement}
 use Rattle.forms.proofs.part.read_kind.Tie as tie
@@ -18,7 +18,7 @@ enum-known-kind c = search rules
 
 returns : tie.Need-returns
 unfolding kinds
-returns c = first-row _ _ _ (sym (ap (kindMeaning _) c.before.kind.given.1) ∙ c.before.before.before.read-kind-word.ensures)
+returns c = first-row _ _ _ (sym (ap (kind_meaning _) c.before.kind.given.1) ∙ c.before.before.before.read-kind-word.ensures)
 
 enum_told : tie.Need-enum-told
 enum_told c = search rules
@@ -34,7 +34,7 @@ unfolding kinds
 returns-2 c =
     c.read-kind-word2.ensures
     ∙ sym
-    (after-row _ _ _ (sym (ap (kindMeaning _) c.before.before.enum_told.given.1) ∙ c.before.before.before.before.read-kind-word.ensures)
+    (after-row _ _ _ (sym (ap (kind_meaning _) c.before.before.enum_told.given.1) ∙ c.before.before.before.before.read-kind-word.ensures)
     ∙ last_row _ _)
 
 pub read-kind-spec : {M : Type 1} → statement M

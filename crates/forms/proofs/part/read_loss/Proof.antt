@@ -4,9 +4,9 @@ use mathlib.Core.Path.{sym, ap, ◌∙◌}
 use mathlib.Core.List.{List}
 use Prim.Native.Nat.{ℕ}
 use lib.ListN.{drop}
-use Rattle.text.specs.Template.{mapRead}
+use Rattle.text.specs.Template.{map_read}
 use Rattle.forms.specs.Reading.{losses}
-use Rattle.forms.specs.Calls.{fittedLoss}
+use Rattle.forms.specs.Calls.{fitted_loss}
 use Rattle.forms.proofs.Rows.{Left, row-passed, row_read, no_row}
 use Rattle.forms.proofs.part.read_loss.Statement.{statement}
 use Rattle.forms.proofs.part.read_loss.Tie as tie
@@ -32,7 +32,7 @@ unfolding losses
 returns c =
     rw c.half-field.ensures
     (sym
-    (ap (mapRead fittedLoss)
+    (ap (map_read fitted_loss)
     (row_read _ _ _ _ _ c.before.before.before.before.read-template.ensures _ _ c.before.before.numbers.given.1)))
 
 enum_told : tie.Need-enum-told
@@ -55,7 +55,7 @@ returns-2 : tie.Need-returns-2
 unfolding losses
 returns-2 c =
     sym
-    (ap (mapRead fittedLoss)
+    (ap (map_read fitted_loss)
     (left-1 c.before.before.before.before.before
     ∙ row_read _ _ _ _ _ c.before.before.before.read-template2.ensures _ _ c.before.next.given.1))
 
@@ -79,7 +79,7 @@ returns-3 : tie.Need-returns-3
 unfolding losses
 returns-3 c =
     sym
-    (ap (mapRead fittedLoss)
+    (ap (map_read fitted_loss)
     (left-2 c.before.before.before.before.before
     ∙ row_read _ _ _ _ _ c.before.before.before.read-template3.ensures _ _ c.before.next2.given.1))
 
@@ -105,7 +105,7 @@ returns-4 : tie.Need-returns-4
 unfolding losses
 returns-4 c =
     sym
-    (ap (mapRead fittedLoss)
+    (ap (map_read fitted_loss)
     (left-3 c.before.before.before.before.before
     ∙ row_read _ _ _ _ _ c.before.before.before.read-template4.ensures _ _ c.before.next3.given.1))
 
@@ -116,7 +116,7 @@ returns-5 : tie.Need-returns-5
 unfolding losses
 returns-5 c =
     sym
-    (ap (mapRead fittedLoss)
+    (ap (map_read fitted_loss)
     (left-3 c.before.before.before.before
     ∙ row-passed _ _ _ _ _ c.before.before.read-template4.ensures c.enum-told4.given.1
     ∙ no_row _))

@@ -1,10 +1,10 @@
 -- `forms::part::read_meter` meets its contract: the table without ratios, then the one with them. Assumes nothing.
 use borrow.Author.Rules.{rules}
 use mathlib.Core.Path.{sym, ap, ◌∙◌}
-use Rattle.text.specs.Template.{mapRead}
-use Rattle.forms.specs.Reading.{plainMeters, ratioMeters, meters}
-use Rattle.forms.specs.Calls.{fittedMeterOf}
-use Rattle.forms.specs.Steps.{meterMeaning}
+use Rattle.text.specs.Template.{map_read}
+use Rattle.forms.specs.Reading.{plain_meters, ratio_meters, meters}
+use Rattle.forms.specs.Calls.{fitted_meter_of}
+use Rattle.forms.specs.Steps.{meter_meaning}
 use Rattle.forms.proofs.Rows.{first-table, second-table}
 use Rattle.forms.proofs.part.read_meter.Statement.{statement}
 use Rattle.forms.proofs.part.read_meter.Tie as tie
@@ -18,8 +18,8 @@ enum-known-meter c = search rules
 returns : tie.Need-returns
 unfolding meters
 returns c =
-    first-table fittedMeterOf plainMeters ratioMeters _
-    (sym (ap (meterMeaning _) c.before.meter.given.1) ∙ c.before.before.before.read-plain-meter.ensures)
+    first-table fitted_meter_of plain_meters ratio_meters _
+    (sym (ap (meter_meaning _) c.before.meter.given.1) ∙ c.before.before.before.read-plain-meter.ensures)
 
 enum_told : tie.Need-enum-told
 enum_told c = search rules
@@ -31,10 +31,10 @@ returns-2 : tie.Need-returns-2
 unfolding meters
 returns-2 c =
     c.read-ratio-meter.ensures
-    ∙ ap (mapRead fittedMeterOf)
+    ∙ ap (map_read fitted_meter_of)
     (sym
-    (second-table fittedMeterOf plainMeters ratioMeters _
-    (sym (ap (meterMeaning _) c.before.enum_told.given.1) ∙ c.before.before.before.read-plain-meter.ensures)))
+    (second-table fitted_meter_of plain_meters ratio_meters _
+    (sym (ap (meter_meaning _) c.before.enum_told.given.1) ∙ c.before.before.before.read-plain-meter.ensures)))
 
 pub read-meter-spec : {M : Type 1} → statement M
 read-meter-spec =

@@ -4,10 +4,10 @@ use mathlib.Core.Path.{sym, ap, ◌∙◌}
 use mathlib.Core.List.{List}
 use Prim.Native.Nat.{ℕ}
 use lib.ListN.{drop}
-use Rattle.text.specs.Template.{places_of, mapRead}
+use Rattle.text.specs.Template.{places_of, map_read}
 use Rattle.text.proofs.Templates.{template-read}
-use Rattle.forms.specs.Reading.{plainMeters}
-use Rattle.forms.specs.Calls.{fittedMeterOf}
+use Rattle.forms.specs.Reading.{plain_meters}
+use Rattle.forms.specs.Calls.{fitted_meter_of}
 use Rattle.forms.proofs.Rows.{Left, row-passed, row_read, no_row, Fit, registers-fit}
 use Rattle.forms.proofs.Tables.{on-template}
 use Rattle.forms.proofs.part.read_plain_meter.Statement.{statement}
@@ -30,11 +30,11 @@ whole-meter-requires : tie.Need-whole-meter-requires
 whole-meter-requires c κs = search rules
 
 returns : tie.Need-returns
-unfolding plainMeters
+unfolding plain_meters
 returns c =
     rw c.whole-meter.ensures
     (sym
-    (ap (mapRead fittedMeterOf)
+    (ap (map_read fitted_meter_of)
     (row_read _ _ _ _ _ c.before.before.before.before.read-template.ensures _ _ c.before.before.numbers.given.1)))
 
 enum_told : tie.Need-enum-told
@@ -52,16 +52,16 @@ enum-known-numbers-2 c = search rules
 whole-meter-requires-2 : tie.Need-whole-meter-requires-2
 whole-meter-requires-2 c κs = search rules
 
-left-1 : (p : tie.After-enum-told) → Left plainMeters 1 (text p.before.before.before.before.before)
-unfolding plainMeters
+left-1 : (p : tie.After-enum-told) → Left plain_meters 1 (text p.before.before.before.before.before)
+unfolding plain_meters
 left-1 p = row-passed _ _ _ _ _ p.before.before.read-template.ensures p.enum_told.given.1
 
 returns-2 : tie.Need-returns-2
-unfolding plainMeters
+unfolding plain_meters
 returns-2 c =
     rw c.whole-meter2.ensures
     (sym
-    (ap (mapRead fittedMeterOf)
+    (ap (map_read fitted_meter_of)
     (left-1 c.before.before.before.before.before.before
     ∙ row_read _ _ _ _ _ c.before.before.before.before.read-template2.ensures _ _ c.before.before.numbers2.given.1)))
 
@@ -80,18 +80,18 @@ enum-known-numbers-3 c = search rules
 single-meter-requires : tie.Need-single-meter-requires
 single-meter-requires c κs = search rules
 
-left-2 : (p : tie.After-enum-told2) → Left plainMeters 2 (text p.before.before.before.before.before.before.before.before.before)
-unfolding plainMeters
+left-2 : (p : tie.After-enum-told2) → Left plain_meters 2 (text p.before.before.before.before.before.before.before.before.before)
+unfolding plain_meters
 left-2 p = left-1 p.before.before.before.before ∙ row-passed _ _ _ _ _ p.before.before.read-template2.ensures p.enum-told2.given.1
 
 returns-3 : tie.Need-returns-3
-unfolding plainMeters places_of
+unfolding plain_meters places_of
 returns-3 c =
     let f = on-template (λ n. Fit n.first n.second) _ _ _ (template-read _ _ _ c.before.before.before.before.read-template3.ensures
     c.before.before.numbers3.given.1) (λ first h last k text. registers-fit first h last k) in
     rw (c.single-meter.ensures, f.0, f.1)
     (sym
-    (ap (mapRead fittedMeterOf)
+    (ap (map_read fitted_meter_of)
     (left-2 c.before.before.before.before.before.before
     ∙ row_read _ _ _ _ _ c.before.before.before.before.read-template3.ensures _ _ c.before.before.numbers3.given.1)))
 
@@ -111,19 +111,19 @@ single-meter-requires-2 : tie.Need-single-meter-requires-2
 single-meter-requires-2 c κs = search rules
 
 left-3 : (p : tie.After-enum-told3)
-    → Left plainMeters 3
+    → Left plain_meters 3
     (text p.before.before.before.before.before.before.before.before.before.before.before.before.before)
-unfolding plainMeters
+unfolding plain_meters
 left-3 p = left-2 p.before.before.before.before ∙ row-passed _ _ _ _ _ p.before.before.read-template3.ensures p.enum-told3.given.1
 
 returns-4 : tie.Need-returns-4
-unfolding plainMeters places_of
+unfolding plain_meters places_of
 returns-4 c =
     let f = on-template (λ n. Fit n.first n.second) _ _ _ (template-read _ _ _ c.before.before.before.before.read-template4.ensures
     c.before.before.numbers4.given.1) (λ first h last k text. registers-fit first h last k) in
     rw (c.single-meter2.ensures, f.0, f.1)
     (sym
-    (ap (mapRead fittedMeterOf)
+    (ap (map_read fitted_meter_of)
     (left-3 c.before.before.before.before.before.before
     ∙ row_read _ _ _ _ _ c.before.before.before.before.read-template4.ensures _ _ c.before.before.numbers4.given.1)))
 
@@ -131,10 +131,10 @@ enum-told-4 : tie.Need-enum-told-4
 enum-told-4 c = search rules
 
 returns-5 : tie.Need-returns-5
-unfolding plainMeters
+unfolding plain_meters
 returns-5 c =
     sym
-    (ap (mapRead fittedMeterOf)
+    (ap (map_read fitted_meter_of)
     (left-3 c.before.before.before.before
     ∙ row-passed _ _ _ _ _ c.before.before.read-template4.ensures c.enum-told4.given.1
     ∙ no_row _))

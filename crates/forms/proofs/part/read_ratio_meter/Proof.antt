@@ -4,10 +4,10 @@ use mathlib.Core.Path.{sym, ap, ◌∙◌}
 use mathlib.Core.List.{List}
 use Prim.Native.Nat.{ℕ}
 use lib.ListN.{drop}
-use Rattle.text.specs.Template.{places_of, mapRead}
+use Rattle.text.specs.Template.{places_of, map_read}
 use Rattle.text.proofs.Templates.{template-read}
-use Rattle.forms.specs.Reading.{ratioMeters}
-use Rattle.forms.specs.Calls.{fittedMeterOf}
+use Rattle.forms.specs.Reading.{ratio_meters}
+use Rattle.forms.specs.Calls.{fitted_meter_of}
 use Rattle.forms.proofs.Rows.{Left, row-passed, row_read, no_row, Fit, registers-fit}
 use Rattle.forms.proofs.Tables.{on-template}
 use Rattle.forms.proofs.part.read_ratio_meter.Statement.{statement}
@@ -33,11 +33,11 @@ whole-meter-requires : tie.Need-whole-meter-requires
 whole-meter-requires c κs = search rules
 
 returns : tie.Need-returns
-unfolding ratioMeters
+unfolding ratio_meters
 returns c =
     rw (c.whole-meter.ensures, c.before.half-field.ensures)
     (sym
-    (ap (mapRead fittedMeterOf)
+    (ap (map_read fitted_meter_of)
     (row_read _ _ _ _ _ c.before.before.before.before.before.read-template.ensures _ _ c.before.before.before.numbers.given.1)))
 
 enum_told : tie.Need-enum-told
@@ -58,16 +58,16 @@ half-field-requires-2 c κs = search rules
 whole-meter-requires-2 : tie.Need-whole-meter-requires-2
 whole-meter-requires-2 c κs = search rules
 
-left-1 : (p : tie.After-enum-told) → Left ratioMeters 1 (text p.before.before.before.before.before)
-unfolding ratioMeters
+left-1 : (p : tie.After-enum-told) → Left ratio_meters 1 (text p.before.before.before.before.before)
+unfolding ratio_meters
 left-1 p = row-passed _ _ _ _ _ p.before.before.read-template.ensures p.enum_told.given.1
 
 returns-2 : tie.Need-returns-2
-unfolding ratioMeters
+unfolding ratio_meters
 returns-2 c =
     rw (c.whole-meter2.ensures, c.before.half-field2.ensures)
     (sym
-    (ap (mapRead fittedMeterOf)
+    (ap (map_read fitted_meter_of)
     (left-1 c.before.before.before.before.before.before.before
     ∙ row_read _ _ _ _ _ c.before.before.before.before.before.read-template2.ensures _ _ c.before.before.before.numbers2.given.1)))
 
@@ -89,18 +89,18 @@ half-field-requires-3 c κs = search rules
 single-meter-requires : tie.Need-single-meter-requires
 single-meter-requires c κs = search rules
 
-left-2 : (p : tie.After-enum-told2) → Left ratioMeters 2 (text p.before.before.before.before.before.before.before.before.before)
-unfolding ratioMeters
+left-2 : (p : tie.After-enum-told2) → Left ratio_meters 2 (text p.before.before.before.before.before.before.before.before.before)
+unfolding ratio_meters
 left-2 p = left-1 p.before.before.before.before ∙ row-passed _ _ _ _ _ p.before.before.read-template2.ensures p.enum-told2.given.1
 
 returns-3 : tie.Need-returns-3
-unfolding ratioMeters places_of
+unfolding ratio_meters places_of
 returns-3 c =
     let f = on-template (λ n. Fit n.second n.third) _ _ _ (template-read _ _ _ c.before.before.before.before.before.read-template3.ensures
     c.before.before.before.numbers3.given.1) (λ ratio g first h last k text. registers-fit first h last k) in
     rw (c.single-meter.ensures, c.before.half-field3.ensures, f.0, f.1)
     (sym
-    (ap (mapRead fittedMeterOf)
+    (ap (map_read fitted_meter_of)
     (left-2 c.before.before.before.before.before.before.before
     ∙ row_read _ _ _ _ _ c.before.before.before.before.before.read-template3.ensures _ _ c.before.before.before.numbers3.given.1)))
 
@@ -123,19 +123,19 @@ single-meter-requires-2 : tie.Need-single-meter-requires-2
 single-meter-requires-2 c κs = search rules
 
 left-3 : (p : tie.After-enum-told3)
-    → Left ratioMeters 3
+    → Left ratio_meters 3
     (text p.before.before.before.before.before.before.before.before.before.before.before.before.before)
-unfolding ratioMeters
+unfolding ratio_meters
 left-3 p = left-2 p.before.before.before.before ∙ row-passed _ _ _ _ _ p.before.before.read-template3.ensures p.enum-told3.given.1
 
 returns-4 : tie.Need-returns-4
-unfolding ratioMeters places_of
+unfolding ratio_meters places_of
 returns-4 c =
     let f = on-template (λ n. Fit n.second n.third) _ _ _ (template-read _ _ _ c.before.before.before.before.before.read-template4.ensures
     c.before.before.before.numbers4.given.1) (λ ratio g first h last k text. registers-fit first h last k) in
     rw (c.single-meter2.ensures, c.before.half-field4.ensures, f.0, f.1)
     (sym
-    (ap (mapRead fittedMeterOf)
+    (ap (map_read fitted_meter_of)
     (left-3 c.before.before.before.before.before.before.before
     ∙ row_read _ _ _ _ _ c.before.before.before.before.before.read-template4.ensures _ _ c.before.before.before.numbers4.given.1)))
 
@@ -143,10 +143,10 @@ enum-told-4 : tie.Need-enum-told-4
 enum-told-4 c = search rules
 
 returns-5 : tie.Need-returns-5
-unfolding ratioMeters
+unfolding ratio_meters
 returns-5 c =
     sym
-    (ap (mapRead fittedMeterOf)
+    (ap (map_read fitted_meter_of)
     (left-3 c.before.before.before.before
     ∙ row-passed _ _ _ _ _ c.before.before.read-template4.ensures c.enum-told4.given.1
     ∙ no_row _))

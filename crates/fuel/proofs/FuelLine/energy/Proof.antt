@@ -1,6 +1,6 @@
 -- `fuel::FuelLine::energy` meets its contract: each arm by the kind that it knows. Assumes nothing.
 use borrow.Author.Rules.{rules}
-use Rattle.fuel.specs.Fuel.{isEnergy, statedEnergy}
+use Rattle.fuel.specs.Fuel.{is_energy, stated_energy}
 use Rattle.fuel.proofs.FuelLine.energy.Statement.{statement}
 use Rattle.fuel.proofs.FuelLine.energy.Tie as tie
 
@@ -20,11 +20,11 @@ returns : tie.Need-returns
 returns c = rw c.before.before.kind.given.1 c.stated-energy.ensures
 
 returns-2 : tie.Need-returns-2
-unfolding statedEnergy isEnergy
+unfolding stated_energy is_energy
 returns-2 c = rw c.before.kind2.given.1
 
 returns-3 : tie.Need-returns-3
-unfolding statedEnergy isEnergy
+unfolding stated_energy is_energy
 returns-3 c = rw c.before.kind3.given.1
 
 pub energy-spec : {M : Type 1} → statement M

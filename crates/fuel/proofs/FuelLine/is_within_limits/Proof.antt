@@ -1,6 +1,6 @@
 -- `fuel::FuelLine::is_within_limits` meets its contract: each arm by the kind that it knows. Assumes nothing.
 use borrow.Author.Rules.{rules}
-use Rattle.fuel.specs.Fuel.{withinLimits}
+use Rattle.fuel.specs.Fuel.{within_limits}
 use Rattle.fuel.proofs.FuelLine.is_within_limits.Statement.{statement}
 use Rattle.fuel.proofs.FuelLine.is_within_limits.Tie as tie
 
@@ -23,15 +23,15 @@ volume-fits-requires : tie.Need-volume-fits-requires
 volume-fits-requires c κs = search rules
 
 returns : tie.Need-returns
-unfolding withinLimits
+unfolding within_limits
 returns c = rw c.before.before.kind.given.1 c.energy-fits.ensures
 
 returns-2 : tie.Need-returns-2
-unfolding withinLimits
+unfolding within_limits
 returns-2 c = rw c.before.before.kind2.given.1 c.mass-fits.ensures
 
 returns-3 : tie.Need-returns-3
-unfolding withinLimits
+unfolding within_limits
 returns-3 c = rw c.before.before.kind3.given.1 c.volume-fits.ensures
 
 pub is-within-limits-spec : {M : Type 1} → statement M

@@ -9,19 +9,19 @@ use Rattle.rounding.specs.Divided.{divided}
 use Rattle.rounding.specs.Ratio.{Ratio, ◌÷◌}
 use Rattle.rounding.specs.declared.Direction.{Direction}
 use Rattle.rounding.specs.declared.Direction.TheVariants.{Up, Down}
-use Rattle.fuel.specs.Fuel.{withinLimits, exactMilligrams, roundedMilligrams, lineMilligrams}
+use Rattle.fuel.specs.Fuel.{within_limits, exact_milligrams, rounded_milligrams, line_milligrams}
 use Rattle.fuel.specs.declared.FuelLine.{FuelLine}
 use Rattle.fuel.proofs.FuelLine.milligrams.Statement.{statement}
 use Rattle.fuel.proofs.FuelLine.milligrams.Tie as tie
 
 -- What the line gives in a direction, by the quotient there; and out of its limits.
-rounded : (dir : Direction) (l : FuelLine) {q n d : ℕ} → withinLimits l ≡ true → (n ÷ d) ≡ exactMilligrams l → q ≡ divided dir n d
-    → given q ≡ lineMilligrams dir l
-unfolding lineMilligrams roundedMilligrams
+rounded : (dir : Direction) (l : FuelLine) {q n d : ℕ} → within_limits l ≡ true → (n ÷ d) ≡ exact_milligrams l → q ≡ divided dir n d
+    → given q ≡ line_milligrams dir l
+unfolding line_milligrams rounded_milligrams
 rounded dir l h e k = rw h (ap given (k ∙ ap (λ (x : Ratio). divided dir x.plus x.over) e))
 
-beyond : (dir : Direction) (l : FuelLine) → withinLimits l ≡ false → refused 2 ≡ lineMilligrams dir l
-unfolding lineMilligrams
+beyond : (dir : Direction) (l : FuelLine) → within_limits l ≡ false → refused 2 ≡ line_milligrams dir l
+unfolding line_milligrams
 beyond dir l h = rw h
 
 is-within-limits-requires : tie.Need-is-within-limits-requires

@@ -4,7 +4,7 @@ use Prim.Native.Nat.{◌*◌, ◌≤◌}
 use mathlib.Core.Path.{◌≡◌, subst}
 use mathlib.Core.Bool.{true}
 use native.Mathlib.Omega.{arith}
-use Rattle.fuel.specs.Fuel.{kindFits, withinLimits, exactMilligrams}
+use Rattle.fuel.specs.Fuel.{kind_fits, within_limits, exact_milligrams}
 use Rattle.fuel.specs.declared.FuelKind.{FuelKind}
 use Rattle.fuel.specs.declared.FuelLine.{FuelLine}
 use Rattle.fuel.proofs.Fuel.{energy-product, mass-product, volume-product}
@@ -12,9 +12,9 @@ use Rattle.fuel.proofs.FuelLine.unrounded.Statement.{statement}
 use Rattle.fuel.proofs.FuelLine.unrounded.Tie as tie
 
 -- The kind that an arm knows is within its limits.
-fits : (l : FuelLine) (k : FuelKind) → withinLimits l ≡ true → l.kind ≡ k → kindFits k ≡ true
-unfolding withinLimits
-fits l k h e = subst (λ (x : FuelKind). kindFits x ≡ true) e h
+fits : (l : FuelLine) (k : FuelKind) → within_limits l ≡ true → l.kind ≡ k → kind_fits k ≡ true
+unfolding within_limits
+fits l k h e = subst (λ (x : FuelKind). kind_fits x ≡ true) e h
 
 -- So its products are bounded.
 energy : (c : tie.After-known-told)
@@ -85,15 +85,15 @@ mul-t26 : tie.Need-overflow-mul-t26
 mul-t26 c = omega (arith, (volume c).1)
 
 returns : tie.Need-returns
-unfolding exactMilligrams
+unfolding exact_milligrams
 returns c = rw c.before.kind.given.1
 
 returns-2 : tie.Need-returns-2
-unfolding exactMilligrams
+unfolding exact_milligrams
 returns-2 c = rw c.before.kind2.given.1
 
 returns-3 : tie.Need-returns-3
-unfolding exactMilligrams
+unfolding exact_milligrams
 returns-3 c = rw c.before.kind3.given.1
 
 pub unrounded-spec : {M : Type 1} → statement M

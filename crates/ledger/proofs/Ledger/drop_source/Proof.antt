@@ -1,8 +1,8 @@
 -- `ledger::Ledger::drop_source` meets its contract: the record under the number is stored as it is kept. Assumes nothing.
 use borrow.Author.Rules.{rules}
 use mathlib.Core.Path.{refl, sym, ap, ◌∙◌}
-use Rattle.records.specs.Records.{noSource}
-use Rattle.report.specs.Answers.{answerMeaning}
+use Rattle.records.specs.Records.{no_source}
+use Rattle.report.specs.Answers.{answer_meaning}
 use Rattle.ledger.proofs.Stores.{drop-source-stores, drop-source-answers}
 use Rattle.ledger.proofs.Ledger.drop_source.Statement.{statement}
 use Rattle.ledger.proofs.Ledger.drop_source.Tie as tie
@@ -26,11 +26,11 @@ element-set-from-kept : tie.Need-element-set-from-kept
 element-set-from-kept c = search rules
 
 returns : tie.Need-returns
-unfolding noSource
+unfolding no_source
 returns c =
     let a = c.before.before.before.args in
     let e = c.before.dropped.ensures in
-    (rw e.0 (sym (drop-source-stores a.t1 a.number _ refl)), ap answerMeaning e.1 ∙ sym (drop-source-answers a.t1 a.number _ refl))
+    (rw e.0 (sym (drop-source-stores a.t1 a.number _ refl)), ap answer_meaning e.1 ∙ sym (drop-source-answers a.t1 a.number _ refl))
 
 pub drop-source-spec : {M : Type 1} → statement M
 drop-source-spec =

@@ -1,7 +1,7 @@
 -- `ledger::Ledger::enter_plant` meets its contract: the record under the number is stored as it is kept. Assumes nothing.
 use borrow.Author.Rules.{rules}
 use mathlib.Core.Path.{sym, ap, ◌∙◌}
-use Rattle.report.specs.Answers.{answerMeaning}
+use Rattle.report.specs.Answers.{answer_meaning}
 use Rattle.ledger.proofs.Stores.{enter-plant-stores, enter-plant-answers}
 use Rattle.ledger.proofs.Ledger.enter_plant.Statement.{statement}
 use Rattle.ledger.proofs.Ledger.enter_plant.Tie as tie
@@ -28,7 +28,7 @@ returns : tie.Need-returns
 returns c =
     let a = c.before.before.before.args in
     let e = c.before.entered.ensures in
-    (rw e.0 (sym (enter-plant-stores a.t1 a.number _ _)), ap answerMeaning e.1 ∙ sym (enter-plant-answers a.t1 a.number a.plant))
+    (rw e.0 (sym (enter-plant-stores a.t1 a.number _ _)), ap answer_meaning e.1 ∙ sym (enter-plant-answers a.t1 a.number a.plant))
 
 pub enter-plant-spec : {M : Type 1} → statement M
 enter-plant-spec =

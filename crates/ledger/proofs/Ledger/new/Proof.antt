@@ -1,6 +1,6 @@
 -- `ledger::Ledger::new` meets its contract: the empty record of the grid and under each number. Assumes nothing.
 use borrow.Author.Rules.{rules}
-use Rattle.ledger.specs.Operations.{newLedger}
+use Rattle.ledger.specs.Operations.{new_ledger}
 use Rattle.ledger.proofs.Ledger.new.Statement.{statement}
 use Rattle.ledger.proofs.Ledger.new.Tie as tie
 
@@ -14,7 +14,7 @@ empty-requires-3 : tie.Need-empty-requires-3
 empty-requires-3 c κs = search rules
 
 returns : tie.Need-returns
-unfolding newLedger
+unfolding new_ledger
 returns c = rw (c.before.before.empty.ensures, c.before.empty2.ensures, c.empty3.ensures)
 
 pub new_spec : {M : Type 1} → statement M

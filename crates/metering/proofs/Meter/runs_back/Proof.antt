@@ -4,9 +4,9 @@ use mathlib.Core.Path.{◌≡◌, sym, ap, ◌∙◌, subst}
 use mathlib.Core.Bool.{Bool, true, ◌&&◌}
 use lib.Dec.{ltb}
 use Rattle.rounding.proofs.Tests.{and_both}
-use Rattle.metering.specs.Reading.{exactBy, accepted}
+use Rattle.metering.specs.Reading.{exact_by, accepted}
 use Prim.Native.Nat.{ℕ}
-use Rattle.metering.specs.Energy.{first_of, last_of, hasRatio}
+use Rattle.metering.specs.Energy.{first_of, last_of, has_ratio}
 use Rattle.metering.specs.declared.Interval.{Interval}
 use Rattle.metering.proofs.Patterns.{accepted-number}
 use Rattle.metering.proofs.Energy.{order-by, counts-order, read-ratio}
@@ -14,7 +14,7 @@ use Rattle.metering.proofs.Meter.runs_back.Statement.{statement}
 use Rattle.metering.proofs.Meter.runs_back.Tie as tie
 
 abbrev falls : ℕ → Interval → Bool
-falls ratio i = ltb (exactBy ratio (last_of i)) (exactBy ratio (first_of i))
+falls ratio i = ltb (exact_by ratio (last_of i)) (exact_by ratio (first_of i))
 
 enum-known-interval : tie.Need-enum-known-interval
 enum-known-interval c = search rules
@@ -26,7 +26,7 @@ run-back-requires : tie.Need-run-back-requires
 run-back-requires c κs =
     let s = c.before.before.before in
     let r = s.args.self.ratio in
-    let a = (and_both (hasRatio s.args.self) _ s.requires).1 in
+    let a = (and_both (has_ratio s.args.self) _ s.requires).1 in
     let p = and_both _ _ (subst (λ (x : Interval). (accepted r (first_of x) && accepted r (last_of x)) ≡ true) c.before.interval2.given.1 a) in
     (accepted-number r _ p.0, accepted-number r _ p.1)
 

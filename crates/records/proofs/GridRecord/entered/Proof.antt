@@ -1,7 +1,7 @@
 -- `records::GridRecord::entered` meets its contract: what the entry was judged to leave, or its refusal. Assumes nothing.
 use borrow.Author.Rules.{rules}
 use mathlib.Core.Path.{ap, ◌∙◌}
-use Rattle.emissions.specs.Answers.{gridRefusal}
+use Rattle.emissions.specs.Answers.{grid_refusal}
 use Rattle.emissions.proofs.Grids.{judged-as}
 use Rattle.records.proofs.GridRecord.entered.Statement.{statement}
 use Rattle.records.proofs.GridRecord.entered.Tie as tie
@@ -21,7 +21,7 @@ refusal-requires c κs = search rules
 returns : tie.Need-returns
 returns c =
     let e = judged-as c.before.before.before.judged.ensures c.before.enum_told.given.1 in
-    (rw e, rw (e, c.refusal.ensures ∙ ap gridRefusal c.before.enum_told.given.1))
+    (rw e, rw (e, c.refusal.ensures ∙ ap grid_refusal c.before.enum_told.given.1))
 
 returns-2 : tie.Need-returns-2
 returns-2 c =

@@ -9,22 +9,22 @@ use Prim.Native.Nat.{◌+◌, ◌-◌, ◌≤◌, ◌<◌, zero-le}
 use native.Mathlib.Nat.{le_of_eq, le_trans, pos_of_ne-zero}
 use native.Mathlib.Omega.{arith}
 use lib.ListN.{length, get_or, take, drop, length-map}
-use Rattle.fuel.specs.Fuel.{noLine, isEnergy, lineEnergy, statesEnergy, statedEnergy, energyMeaning, allLines}
+use Rattle.fuel.specs.Fuel.{no_line, is_energy, line_energy, states_energy, stated_energy, energy_meaning, all_lines}
 use Rattle.fuel.specs.declared.FuelLine.{FuelLine}
 use Rattle.fuel.proofs.Fuel.{line-energy-bound, energy-stated, energy-not-stated}
 use Rattle.rounding.proofs.Tests.{and_both}
-use Rattle.records.specs.Heat.{fuelEnergy}
+use Rattle.records.specs.Heat.{fuel_energy}
 use Rattle.records.specs.Judging.{lines_of}
 use Rattle.records.specs.declared.Plant.{Plant}
-use Rattle.records.proofs.Lines.{next-line, no_line, SumBefore, sum-start, sum-turn, sum-end}
+use Rattle.records.proofs.Lines.{next-line, no_line_lem, SumBefore, sum-start, sum-turn, sum-end}
 use Rattle.records.proofs.Plant.heat_judged.Statement.{statement}
 use Rattle.records.proofs.Plant.heat_judged.Tie as tie
 
 abbrev invariant-loop : tie.invariant-loop
 invariant-loop plant lines count total₀ i₀ total i =
     (i ≤ count)
-    × SumBefore lineEnergy 15000000000000 lines count i total
-    × (allLines statesEnergy (drop i (take count lines)) ≡ allLines statesEnergy (take count lines))
+    × SumBefore line_energy 15000000000000 lines count i total
+    × (all_lines states_energy (drop i (take count lines)) ≡ all_lines states_energy (take count lines))
 
 abbrev decreases-loop : tie.decreases-loop
 decreases-loop plant lines count total₀ i₀ total i = count - i
@@ -43,43 +43,43 @@ room c =
 
 -- The line in its turn, and what follows where it is found to state its energy or not.
 abbrev line : tie.In-loop invariant-loop decreases-loop → FuelLine
-line c = get_or (plant c.before.before.before.before).lines c.before.loop.i noLine
+line c = get_or (plant c.before.before.before.before).lines c.before.loop.i no_line
 
-turn : (c : tie.In-loop invariant-loop decreases-loop) (t : Bool) → statesEnergy (line c) ≡ t
+turn : (c : tie.In-loop invariant-loop decreases-loop) (t : Bool) → states_energy (line c) ≡ t
     → let p = plant c.before.before.before.before in
-    (t && allLines statesEnergy (drop (c.before.loop.i + 1) (take p.count p.lines))) ≡ allLines statesEnergy (take p.count p.lines)
+    (t && all_lines states_energy (drop (c.before.loop.i + 1) (take p.count p.lines))) ≡ all_lines states_energy (take p.count p.lines)
 turn c t e =
     let b = c.before.before.before.before in
-    sym (next-line statesEnergy (plant b).lines (plant b).count c.before.loop.i noLine t c.loop-test.true (room b) e) ∙ c.before.loop.invariant.2
+    sym (next-line states_energy (plant b).lines (plant b).count c.before.loop.i no_line t c.loop-test.true (room b) e) ∙ c.before.loop.invariant.2
 
 -- What it stated, and what is summed up after it.
-stated : (c : tie.After-known-told invariant-loop decreases-loop) → statedEnergy (line c.before.before.before.before.before) ≡ some c.before.energy2.given.0.0
-stated c = sym c.before.before.before.energy.ensures ∙ ap energyMeaning c.before.energy2.given.1
+stated : (c : tie.After-known-told invariant-loop decreases-loop) → stated_energy (line c.before.before.before.before.before) ≡ some c.before.energy2.given.0.0
+stated c = sym c.before.before.before.energy.ensures ∙ ap energy_meaning c.before.energy2.given.1
 
 summed-on : (c : tie.After-known-told invariant-loop decreases-loop)
     → let b = c.before.before.before.before.before in
     let p = plant b.before.before.before.before in
-    SumBefore lineEnergy 15000000000000 p.lines p.count (b.before.loop.i + 1) (b.before.loop.total + c.before.energy2.given.0.0)
+    SumBefore line_energy 15000000000000 p.lines p.count (b.before.loop.i + 1) (b.before.loop.total + c.before.energy2.given.0.0)
 summed-on c =
     let b = c.before.before.before.before.before in
     let e = b.before.before.before.before in
     let g = energy-stated (line b) _ (stated c) in
-    let fits = (and_both (isEnergy (line b)) _ g.0).1 in
-    sum-turn lineEnergy 15000000000000 (plant e).lines (plant e).count b.before.loop.i _ (room e) b.before.loop.invariant.1 noLine _
+    let fits = (and_both (is_energy (line b)) _ g.0).1 in
+    sum-turn line_energy 15000000000000 (plant e).lines (plant e).count b.before.loop.i _ (room e) b.before.loop.invariant.1 no_line _
     b.loop-test.true g.1 (omega (arith, g.1, line-energy-bound (line b) fits))
 
 -- All lines stated their energy, and this is what they come to.
 all-stated : (c : tie.After-loop invariant-loop decreases-loop)
     → let p = plant c.before.before.before.before in
-    (allLines statesEnergy (take p.count p.lines) ≡ true) × (c.before.loop.total ≡ fuelEnergy (take p.count p.lines))
-unfolding fuelEnergy
+    (all_lines states_energy (take p.count p.lines) ≡ true) × (c.before.loop.total ≡ fuel_energy (take p.count p.lines))
+unfolding fuel_energy
 all-stated c =
     let l = c.before in
     let b = l.before.before.before in
     let p = plant b in
     let h = c.loop-test.false in (
-      sym l.loop.invariant.2 ∙ no_line statesEnergy p.lines p.count l.loop.i h (room b),
-      sum-end lineEnergy 15000000000000 p.lines p.count l.loop.i _ (room b) l.loop.invariant.1 h,
+      sym l.loop.invariant.2 ∙ no_line_lem states_energy p.lines p.count l.loop.i h (room b),
+      sum-end line_energy 15000000000000 p.lines p.count l.loop.i _ (room b) l.loop.invariant.1 h,
     )
 
 returns : tie.Need-returns invariant-loop decreases-loop
@@ -94,7 +94,7 @@ cast-count c = search rules
 loop-holds : tie.Need-loop-init invariant-loop decreases-loop
 loop-holds c =
     let p = plant c.before.before in
-    (zero-le, sum-start lineEnergy 15000000000000 p.lines p.count, refl)
+    (zero-le, sum-start line_energy 15000000000000 p.lines p.count, refl)
 
 mul-line : tie.Need-overflow-mul-line invariant-loop decreases-loop
 mul-line c = search rules
@@ -119,7 +119,7 @@ returns-3 c =
     rw (
       lt-ltb 0 _ (above e.before.before),
       le-leb _ _ e.if2.false,
-      sym (turn b.before.before false (energy-not-stated _ (sym b.energy.ensures ∙ ap energyMeaning c.enum_told.given.1))),
+      sym (turn b.before.before false (energy-not-stated _ (sym b.energy.ensures ∙ ap energy_meaning c.enum_told.given.1))),
     )
 
 add_total : tie.Need-overflow-add-total invariant-loop decreases-loop

@@ -5,9 +5,9 @@ use mathlib.Core.Path.{◌≡◌, sym, ◌∙◌}
 use mathlib.Core.Bool.{Bool, true, false, ◌&&◌}
 use lib.Dec.{leb}
 use Rattle.rounding.proofs.Tests.{and_both, tested}
-use Rattle.records.specs.Judging.{plantJudged}
+use Rattle.records.specs.Judging.{plant_judged}
 use Rattle.records.specs.declared.HeatJudged.{HeatJudged}
-use Rattle.records.proofs.Judged.{byHeat, plant-number, plant-site, plant-figures, plant-lines, plant-heat}
+use Rattle.records.proofs.Judged.{by_heat, plant-number, plant-site, plant-figures, plant-lines, plant-heat}
 use Rattle.records.proofs.Plant.judged.Statement.{statement}
 use Rattle.records.proofs.Plant.judged.Tie as tie
 
@@ -51,7 +51,7 @@ heat-judged-requires c κs = search rules
 -- Of lines within their limits the heat decides.
 decided : (c : tie.After-heat-judged) (j : HeatJudged) → c.heat-judged.result ≡ j
     → let a = c.before.before.before.before.before.before.before.before.before.args in
-    plantJudged a.number a.self ≡ byHeat a.self j
+    plant_judged a.number a.self ≡ by_heat a.self j
 decided c j e =
     let b = c.before.before.before.before.before.before in
     let a = b.before.before.before.args in

@@ -1,7 +1,7 @@
 -- `records::PlantRecord::entered` meets its contract: as the plant is judged. Assumes nothing.
 use borrow.Author.Rules.{rules}
 use mathlib.Core.Path.{sym, ◌∙◌}
-use Rattle.records.specs.Judging.{plantJudged}
+use Rattle.records.specs.Judging.{plant_judged}
 use Rattle.records.proofs.Judged.{was-refused, plant-accepted}
 use Rattle.records.proofs.PlantRecord.entered.Statement.{statement}
 use Rattle.records.proofs.PlantRecord.entered.Tie as tie
@@ -19,7 +19,7 @@ returns : tie.Need-returns
 returns c =
     let a = c.before.before.before.args in
     let e = c.before.before.judged.ensures in
-    (rw (was-refused (plantJudged a.number a.plant) _ (sym e ∙ c.enum-told2.given.1)), e)
+    (rw (was-refused (plant_judged a.number a.plant) _ (sym e ∙ c.enum-told2.given.1)), e)
 
 of-requires : tie.Need-of-requires
 of-requires c κs = search rules

@@ -2,7 +2,7 @@
 use borrow.Author.Rules.{rules}
 use mathlib.Core.Path.{sym, ap}
 use Rattle.records.specs.Judging.{answer_of}
-use Rattle.records.specs.Steps.{sourceMeaning}
+use Rattle.records.specs.Steps.{source_meaning}
 use Rattle.records.specs.declared.SourceJudged.{SourceJudged}
 use Rattle.records.proofs.SourceJudged.answer.Statement.{statement}
 use Rattle.records.proofs.SourceJudged.answer.Tie as tie
@@ -14,7 +14,7 @@ enum_told : tie.Need-enum-told
 enum_told c = search rules
 
 returns : tie.Need-returns
-returns c = ap (λ (j : SourceJudged). answer_of (sourceMeaning j)) (sym c.before.self.given.1)
+returns c = ap (λ (j : SourceJudged). answer_of (source_meaning j)) (sym c.before.self.given.1)
 
 returns-2 : tie.Need-returns-2
 returns-2 c = search rules

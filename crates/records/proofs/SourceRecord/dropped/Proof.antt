@@ -1,7 +1,7 @@
 -- `records::SourceRecord::dropped` meets its contract: as the drop is judged. Assumes nothing.
 use borrow.Author.Rules.{rules}
 use mathlib.Core.Path.{sym, ◌∙◌}
-use Rattle.records.specs.Judging.{dropJudged}
+use Rattle.records.specs.Judging.{drop_judged}
 use Rattle.records.proofs.Judged.{was-refused, was-given}
 use Rattle.records.proofs.SourceRecord.dropped.Statement.{statement}
 use Rattle.records.proofs.SourceRecord.dropped.Tie as tie
@@ -19,7 +19,7 @@ returns : tie.Need-returns
 returns c =
     let a = c.before.before.before.args in
     let e = c.before.before.judged-drop.ensures in
-    (rw (was-refused (dropJudged 31 a.self.stands a.number) _ (sym e ∙ c.enum-told2.given.1)), e)
+    (rw (was-refused (drop_judged 31 a.self.stands a.number) _ (sym e ∙ c.enum-told2.given.1)), e)
 
 empty-requires : tie.Need-empty-requires
 empty-requires c κs = search rules
@@ -28,7 +28,7 @@ returns-2 : tie.Need-returns-2
 returns-2 c =
     let a = c.before.before.before.before.args in
     let e = c.before.before.before.judged-drop.ensures in
-    (rw (was-given (dropJudged 31 a.self.stands a.number) (sym e ∙ c.before.enum_told.given.1)).1 c.empty.ensures, e)
+    (rw (was-given (drop_judged 31 a.self.stands a.number) (sym e ∙ c.before.enum_told.given.1)).1 c.empty.ensures, e)
 
 pub dropped-spec : {M : Type 1} → statement M
 dropped-spec = tie.close (tie.spec judged-drop-requires enum_told enum-told-2 returns empty-requires returns-2)

@@ -2,7 +2,7 @@
 use borrow.Author.Rules.{rules}
 use mathlib.Core.Path.{sym, ap, ◌∙◌}
 use Rattle.records.specs.Judging.{answer_of}
-use Rattle.records.specs.Steps.{sourceMeaning}
+use Rattle.records.specs.Steps.{source_meaning}
 use Rattle.records.proofs.SourceRecord.entered.Statement.{statement}
 use Rattle.records.proofs.SourceRecord.entered.Tie as tie
 
@@ -21,14 +21,14 @@ answer-requires c κs = search rules
 returns : tie.Need-returns
 returns c =
     let e = c.before.before.before.judged.ensures in
-    (rw (sym e ∙ ap sourceMeaning c.before.enum_told.given.1), c.answer.ensures ∙ ap answer_of e)
+    (rw (sym e ∙ ap source_meaning c.before.enum_told.given.1), c.answer.ensures ∙ ap answer_of e)
 
 of-requires : tie.Need-of-requires
 of-requires c κs = search rules
 
 returns-2 : tie.Need-returns-2
 returns-2 c =
-    let j = sym c.before.before.before.before.judged.ensures ∙ ap sourceMeaning c.before.before.judged2.given.1 in
+    let j = sym c.before.before.before.before.judged.ensures ∙ ap source_meaning c.before.before.judged2.given.1 in
     (rw j c.of.ensures, rw j)
 
 pub entered-spec : {M : Type 1} → statement M

@@ -13,8 +13,8 @@ use Rattle.emissions.specs.Factor.{direction}
 use Rattle.emissions.specs.declared.Side.{Side}
 use Rattle.emissions.specs.declared.Side.TheVariants.{Project, Leakage, Baseline}
 use Rattle.report.specs.Report as report
-use Rattle.report.specs.Answers.{sideMeaning, reportIn}
-use Rattle.report.specs.Steps.{sideFrom, reductionOf, reportedOf}
+use Rattle.report.specs.Answers.{side_meaning, report_in}
+use Rattle.report.specs.Steps.{side_from, reduction_of, reported_of}
 use Rattle.report.specs.declared.SideSum.{SideSum}
 use Rattle.report.specs.declared.Sums.{Sums}
 use Rattle.report.specs.declared.SideReport.{SideReport}
@@ -23,24 +23,24 @@ use Rattle.report.proofs.Sums.reported.Statement.{statement}
 use Rattle.report.proofs.Sums.reported.Tie as tie
 
 -- A side within the limit has at most 1,000,000,000 tonnes.
-tonnes-fit : (side : Side) (s : SideSum) {r : SideReport} → sideMeaning r ≡ sideFrom side s → s.grams ≤ 1000000000000000 → r.tonnes ≤ 1000000000
+tonnes-fit : (side : Side) (s : SideSum) {r : SideReport} → side_meaning r ≡ side_from side s → s.grams ≤ 1000000000000000 → r.tonnes ≤ 1000000000
 tonnes-fit side s e h =
     rw (ap (λ (x : report.SideReport). x.tonnes) e) (divided-at-most (direction side) s.grams 1000000 1000000000 (omega arith) (omega arith))
 
 -- The sums of three sides, by the tests of their grams.
 module _ (s : Sums) where
-  over-project : 1000000000000000 < s.project.grams → report.refusedWith 13 ≡ reportedOf s
-  unfolding reportedOf
+  over-project : 1000000000000000 < s.project.grams → report.refused_with 13 ≡ reported_of s
+  unfolding reported_of
   over-project h = rw (lt-leb s.project.grams 1000000000000000 h)
 
   module _ (hp : s.project.grams ≤ 1000000000000000) where
-    over-leakage : 1000000000000000 < s.leakage.grams → report.refusedWith 13 ≡ reportedOf s
-    unfolding reportedOf
+    over-leakage : 1000000000000000 < s.leakage.grams → report.refused_with 13 ≡ reported_of s
+    unfolding reported_of
     over-leakage h = rw (le-leb s.project.grams 1000000000000000 hp, lt-leb s.leakage.grams 1000000000000000 h)
 
     module _ (hl : s.leakage.grams ≤ 1000000000000000) where
-      over-baseline : 1000000000000000 < s.baseline.grams → report.refusedWith 13 ≡ reportedOf s
-      unfolding reportedOf
+      over-baseline : 1000000000000000 < s.baseline.grams → report.refused_with 13 ≡ reported_of s
+      unfolding reported_of
       over-baseline h =
           rw (
             le-leb s.project.grams 1000000000000000 hp,
@@ -48,11 +48,11 @@ module _ (s : Sums) where
             lt-leb s.baseline.grams 1000000000000000 h,
           )
 
-      module _ (hb : s.baseline.grams ≤ 1000000000000000) {p l b : SideReport} {r : ℤ} (ep : sideMeaning p ≡ sideFrom Project s.project)
-          (el : sideMeaning l ≡ sideFrom Leakage s.leakage) (eb : sideMeaning b ≡ sideFrom Baseline s.baseline)
-          (er : r ≡ reductionOf b.tonnes p.tonnes l.tonnes) where
-        within : report.reported (reportIn (record { project = p; leakage = l; baseline = b; reduction = to_z w64 (of_z w64 r) })) ≡ reportedOf s
-        unfolding reportedOf
+      module _ (hb : s.baseline.grams ≤ 1000000000000000) {p l b : SideReport} {r : ℤ} (ep : side_meaning p ≡ side_from Project s.project)
+          (el : side_meaning l ≡ side_from Leakage s.leakage) (eb : side_meaning b ≡ side_from Baseline s.baseline)
+          (er : r ≡ reduction_of b.tonnes p.tonnes l.tonnes) where
+        within : report.reported (report_in (record { project = p; leakage = l; baseline = b; reduction = to_z w64 (of_z w64 r) })) ≡ reported_of s
+        unfolding reported_of
         within =
             let fb = tonnes-fit Baseline s.baseline eb hb in
             let fp = tonnes-fit Project s.project ep hp in

@@ -6,33 +6,33 @@ use Prim.Native.Nat.{ℕ, ◌+◌, ◌-◌, ◌^◌, ◌<◌, ◌≤◌, min}
 use native.Mathlib.Omega.{arith}
 use native.Mathlib.Decide.{dec_lt}
 use lib.ListN.{length, drop}
-use Rattle.text.specs.Steps.{plainBytes}
+use Rattle.text.specs.Steps.{plain_bytes}
 use Rattle.text.proofs.Plain.{plain-template-ends, plain-text-ends, plain_other, plain-place, plain_more}
 use Rattle.text.proofs.template.plain_bytes.Statement.{statement}
 use Rattle.text.proofs.template.plain_bytes.Tie as tie
 
 -- Those that are left after so many.
 left : List ℕ → ℕ → List ℕ → ℕ → ℕ → ℕ
-left text at template from count = plainBytes (drop (from + count) template) (drop (at + count) text)
+left text at template from count = plain_bytes (drop (from + count) template) (drop (at + count) text)
 
 abbrev invariant-loop : tie.invariant-loop
 invariant-loop text at template from most count₀ count =
     (count ≤ most)
     × (most ≡ min (min 4294967295 (length template - from)) (length text - at))
-    × (count + left text at template from count ≡ plainBytes (drop from template) (drop at text))
+    × (count + left text at template from count ≡ plain_bytes (drop from template) (drop at text))
 
 abbrev decreases-loop : tie.decreases-loop
 decreases-loop text at template from most count₀ count = most - count
 
 module _ (text : List ℕ) (at : ℕ) (template : List ℕ) (from : ℕ) where
-  left-first : left text at template from 0 ≡ plainBytes (drop from template) (drop at text)
+  left-first : left text at template from 0 ≡ plain_bytes (drop from template) (drop at text)
   unfolding left
   left-first =
       let e : from + 0 ≡ from = omega arith in
       let f : at + 0 ≡ at = omega arith in
       rw (e, f)
 
-  next_place : (count : ℕ) → plainBytes (drop (from + count + 1) template) (drop (at + count + 1) text) ≡ left text at template from (count + 1)
+  next_place : (count : ℕ) → plain_bytes (drop (from + count + 1) template) (drop (at + count + 1) text) ≡ left text at template from (count + 1)
   unfolding left
   next_place count =
       let e : from + count + 1 ≡ from + (count + 1) = omega arith in
