@@ -1,5 +1,7 @@
 // The text that the program tally reads, and its answers: a whole input to a whole output (document 01,
 // "The text the program tally reads").
+#![tactic(auto)]
+
 pub mod line;
 
 ghost use Rattle.std.specs.Prelude.{◌≡◌, ◌+◌, ◌*◌, ◌≤◌, length, drop};
@@ -13,7 +15,7 @@ use ledger::Ledger;
 use records::{GridKept, Plant, PlantKept, Source, SourceKept};
 
 // How many bytes were written, or that the buffer might be too short.
-#[derive(Drop)]
+#[derive(Clone, Copy)]
 pub enum Written {
     TooShort,
     Bytes(usize),

@@ -1,5 +1,7 @@
 // A line read as the call that it makes (document 01, "The text the program tally reads": "Forms"). The
 // templates are those of the crate `text`: # is the place of a decimal.
+#![tactic(auto)]
+
 mod list;
 mod part;
 
@@ -34,7 +36,7 @@ use records::{Plant, SourceEntry};
 use text::Match;
 
 // The kinds of lines: what a line enters, drops or asks for.
-#[derive(Drop)]
+#[derive(Clone, Copy)]
 pub enum Kind {
     NoForm,
     GridForm,
@@ -45,7 +47,7 @@ pub enum Kind {
 
 // A line as read: its kind says which of its parts count, and the others are empty. `drops` says that the plant
 // or source under its number is taken away and not entered. `next` is the place after what was read.
-#[derive(Drop)]
+#[derive(Clone, Copy)]
 pub struct Line {
     pub kind: Kind,
     pub drops: bool,

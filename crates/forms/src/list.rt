@@ -13,14 +13,14 @@ use metering::Meter;
 use records::Plant;
 
 // The parts of an entry: the first four, how many there are, and the place after them.
-#[derive(Drop)]
+#[derive(Clone, Copy)]
 pub struct Fuels {
     pub lines: [FuelLine; Plant::LINE_PLACES],
     pub count: usize,
     pub next: usize,
 }
 
-#[derive(Drop)]
+#[derive(Clone, Copy)]
 pub struct Meters {
     pub meters: [Meter; Meter::PLACES],
     pub count: usize,

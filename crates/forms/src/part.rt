@@ -44,44 +44,44 @@ use metering::{Interval, Meter, Registers, Sign};
 use text::Match;
 
 // A part of a form at a place: the part and the place after it, or that none stands there.
-#[derive(Drop)]
+#[derive(Clone, Copy)]
 pub enum KindRead {
     Missing,
     Found(GridKind, usize),
 }
 
-#[derive(Drop)]
+#[derive(Clone, Copy)]
 pub enum SideRead {
     Missing,
     Found(Side, usize),
 }
 
-#[derive(Drop)]
+#[derive(Clone, Copy)]
 pub enum SupplyRead {
     Missing,
     Found(Supply, usize),
 }
 
-#[derive(Drop)]
+#[derive(Clone, Copy)]
 pub enum LossRead {
     Missing,
     Found(Loss, usize),
 }
 
-#[derive(Drop)]
+#[derive(Clone, Copy)]
 pub enum MeterRead {
     Missing,
     Found(Meter, usize),
 }
 
-#[derive(Drop)]
+#[derive(Clone, Copy)]
 pub enum FuelRead {
     Missing,
     Found(FuelLine, usize),
 }
 
 // The heat of a plant in kJ, 0 where it is left out at a place, and the place after it.
-#[derive(Drop)]
+#[derive(Clone, Copy)]
 pub struct HeatRead {
     pub heat: u64,
     pub next: usize,

@@ -1,5 +1,7 @@
 // Fuel lines of a captive plant: their limits, their milligrams of CO2 and their energy (document 01, "Losses and
 // factors", captive, and "Plant entry", number 2; document 02, wishes 2 and 5).
+#![tactic(auto)]
+
 ghost use Rattle.std.specs.Prelude.{◌≡◌, true};
 ghost use Rattle.rounding.specs.Ratio.{◌÷◌};
 ghost use Rattle.rounding.specs.declared.Direction.TheVariants.{Up, Down};
@@ -18,7 +20,7 @@ ghost use Rattle.fuel.specs.Fuel.{
 use rounding::Direction;
 
 // The figures of a fuel line, by what the supplier states of the fuel.
-#[derive(Drop)]
+#[derive(Clone, Copy)]
 pub enum FuelKind {
     // The quantity burned, Q, in mass or volume units; the net calorific value, V, in kJ a unit; the CO2
     // emission factor, C, in mg a MJ.
@@ -41,34 +43,34 @@ pub enum FuelKind {
 }
 
 // A fuel line as entered.
-#[derive(Drop)]
+#[derive(Clone, Copy)]
 pub struct FuelLine {
     pub kind: FuelKind,
 }
 
 // A line's milligrams of CO2 before they are rounded: the product over the divisor.
-#[derive(Drop)]
+#[derive(Clone, Copy)]
 struct Unrounded {
     product: u64,
     divisor: u64,
 }
 
 // A line's milligrams of CO2, or that it is out of its limits (number 2).
-#[derive(Drop)]
+#[derive(Clone, Copy)]
 pub enum Milligrams {
     Refused,
     Rounded(u64),
 }
 
 // A line's milligrams rounded up and down, for project and leakage and for baseline.
-#[derive(Drop)]
+#[derive(Clone, Copy)]
 pub struct BothWays {
     pub up: Milligrams,
     pub down: Milligrams,
 }
 
 // A line's energy, Q × V in kJ, or that it states none: by carbon, or out of its limits (number 2).
-#[derive(Drop)]
+#[derive(Clone, Copy)]
 pub enum LineEnergy {
     Nothing,
     Stated(u64),

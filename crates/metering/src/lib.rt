@@ -1,6 +1,8 @@
 // Meters: from register to a source's energy in whole watt-hours (document 01, "From register to
 // watt-hours"; document 02, wish 4). We take it that the box has no floating-point unit: a register is read by
 // the integers of its bits.
+#![tactic(auto)]
+
 ghost use Rattle.std.specs.Prelude.{◌≡◌, true, ◌*◌, ◌≤◌, ◌<◌, ltb, take};
 ghost use Rattle.std.specs.Float.{binary32};
 ghost use Rattle.std.specs.Float.Ieee.{of_bits};
@@ -31,7 +33,7 @@ ghost use Rattle.metering.specs.Steps.{magnitude, rounded_both_ways, is_read, me
 use rounding::Direction;
 
 // A meter reading: a whole count of watt-hours, or a binary32 register in kWh.
-#[derive(Drop)]
+#[derive(Clone, Copy)]
 pub enum Reading {
     Whole(u64),
     Single(f32),
@@ -44,21 +46,21 @@ impl Reading {
 }
 
 // The first and the last register of a single meter, in kWh.
-#[derive(Drop)]
+#[derive(Clone, Copy)]
 pub struct Registers {
     pub first: f32,
     pub last: f32,
 }
 
 // Whether a meter's energy adds to its source's energy or is taken from it.
-#[derive(Drop)]
+#[derive(Clone, Copy)]
 pub enum Sign {
     Plus,
     Minus,
 }
 
 // A meter's first and last reading, both of one kind.
-#[derive(Drop)]
+#[derive(Clone, Copy)]
 pub enum Interval {
     Counts(u64, u64),
     Singles(Registers),
@@ -66,7 +68,7 @@ pub enum Interval {
 
 // A meter behind a transformer counts a part of the energy: what its readings stand for is their value times
 // the ratio. Without a transformer the ratio is 1.
-#[derive(Drop)]
+#[derive(Clone, Copy)]
 pub struct Meter {
     pub ratio: u16,
     pub sign: Sign,
@@ -84,7 +86,7 @@ impl Meter {
 }
 
 // A reading times its ratio in whole watt-hours, or the number of the refusal: 2 or 3.
-#[derive(Drop)]
+#[derive(Clone, Copy)]
 pub enum WattHours {
     Refused(u8),
     Rounded(u64),
@@ -92,14 +94,14 @@ pub enum WattHours {
 
 // The sums of a source's readings that add and of those that are taken, rounded; or the number of the
 // refusal: 2, 3 or 4.
-#[derive(Drop)]
+#[derive(Clone, Copy)]
 pub enum MetersJudged {
     Refused(u8),
     Read(u64, u64),
 }
 
 // A source's energy, or the number of the refusal: 6.
-#[derive(Drop)]
+#[derive(Clone, Copy)]
 pub enum EnergyJudged {
     Refused(u8),
     Accepted(u64),
@@ -140,7 +142,7 @@ pub fn register(bits: u32) -> f32
 }
 
 // An exact value in whole watt-hours, rounded down and up.
-#[derive(Drop)]
+#[derive(Clone, Copy)]
 struct Bounds {
     down: u64,
     up: u64,
@@ -324,7 +326,7 @@ impl Meter {
 
 // What a meter or several add to a source's energy and what they take from it, in whole watt-hours, and
 // whether one runs back; or that a reading is refused.
-#[derive(Drop)]
+#[derive(Clone, Copy)]
 enum MeterRead {
     Refused,
     Moved(u64, u64, bool),

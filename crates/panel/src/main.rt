@@ -1,6 +1,8 @@
 // The program that a box runs: it reads a line from standard input, answers it, and only then reads the next. It
 // holds one ledger and one line, which its answer replaces, and nothing more, so that it can run where memory is
 // short. Any number of lines may be typed.
+#![tactic(auto)]
+
 ghost use Rattle.std.specs.Prelude.{◌≡◌, ◌≤◌, ◌<◌, length, take};
 ghost use Rattle.forms.specs.Form.{line_limit};
 ghost use Rattle.forms.specs.Calls.{line_call};
@@ -22,7 +24,7 @@ const ROOM: usize = Line::LIMIT + 1;
 const TURNS: u64 = 0xffff_ffff_ffff_ffff;
 
 // What was read: how many bytes of a line are kept, or that the input has ended.
-#[derive(Drop)]
+#[derive(Clone, Copy)]
 enum LineRead {
     End,
     Line(usize),

@@ -1,6 +1,8 @@
 // The records of a ledger: one of the grid, one under each number of a plant and of a source. Each operation
 // is judged here and works on the one record that it changes; the owner of the ledger stores what is kept
 // (document 01, "How each operation declines"; document 02, wish 5).
+#![tactic(auto)]
+
 ghost use Rattle.std.specs.Prelude.{◌≡◌, ◌≤◌, ◌&&◌, leb, take};
 ghost use Rattle.emissions.specs.Grid.{grid_judged};
 ghost use Rattle.records.specs.Heat.{heat_judged};
@@ -14,7 +16,7 @@ use metering::{EnergyJudged, Meter, MetersJudged};
 
 // A captive plant as entered: its site, its generation in kWh, the heat that it also makes in kJ, and its fuel
 // lines, of which the first `count` count.
-#[derive(Drop)]
+#[derive(Clone, Copy)]
 pub struct Plant {
     pub site: u8,
     pub count: u8,
@@ -24,7 +26,7 @@ pub struct Plant {
 }
 
 // A source as entered: its meters are the first `count` of the four.
-#[derive(Drop)]
+#[derive(Clone, Copy)]
 pub struct SourceEntry {
     pub side: Side,
     pub count: u8,
@@ -34,7 +36,7 @@ pub struct SourceEntry {
 }
 
 // A source as kept: its energy E in watt-hours in place of its meters.
-#[derive(Drop)]
+#[derive(Clone, Copy)]
 pub struct Source {
     pub side: Side,
     pub supply: Supply,
@@ -45,12 +47,12 @@ pub struct Source {
 // What is kept of the grid, and under a number. The fields are those of a plant or a source, with `stands` in
 // a byte that would else be padding; where nothing stands they are empty. The grid has a struct of its own
 // because a field that is an enum cannot be stored to.
-#[derive(Drop)]
+#[derive(Clone, Copy)]
 pub struct GridRecord {
     pub grid: Grid,
 }
 
-#[derive(Drop)]
+#[derive(Clone, Copy)]
 pub struct PlantRecord {
     pub stands: bool,
     pub site: u8,
@@ -60,7 +62,7 @@ pub struct PlantRecord {
     pub lines: [FuelLine; Plant::LINE_PLACES],
 }
 
-#[derive(Drop)]
+#[derive(Clone, Copy)]
 pub struct SourceRecord {
     pub stands: bool,
     pub side: Side,
@@ -71,7 +73,7 @@ pub struct SourceRecord {
 
 // A plant's heat judged: none is made, the number of the refusal, 16 or 17, or the energy J that the heat is a part
 // of.
-#[derive(Drop)]
+#[derive(Clone, Copy)]
 pub enum HeatJudged {
     Nothing,
     Refused(u8),
@@ -79,33 +81,33 @@ pub enum HeatJudged {
 }
 
 // The answer to an entry or a drop.
-#[derive(Drop)]
+#[derive(Clone, Copy)]
 pub enum Answer {
     Accepted,
     Refused(u8),
 }
 
 // What an operation leaves in its record, with its answer.
-#[derive(Drop)]
+#[derive(Clone, Copy)]
 pub struct GridKept {
     pub kept: GridRecord,
     pub answer: Answer,
 }
 
-#[derive(Drop)]
+#[derive(Clone, Copy)]
 pub struct PlantKept {
     pub kept: PlantRecord,
     pub answer: Answer,
 }
 
-#[derive(Drop)]
+#[derive(Clone, Copy)]
 pub struct SourceKept {
     pub kept: SourceRecord,
     pub answer: Answer,
 }
 
 // A source entry judged: what is kept of it, or the number of the refusal.
-#[derive(Drop)]
+#[derive(Clone, Copy)]
 enum SourceJudged {
     Refused(u8),
     Accepted(Source),

@@ -1,6 +1,7 @@
 // The report on what stands (document 01, "Losses and factors" and "Report"; document 02, wishes 3 and 5). The sources
 // are summed up, then the plants, and whether each is such as an entry leaves is looked at in the same pass. So the
 // table of site factors and the walk over the sources are given what meets the limits of accepted entries.
+#![tactic(auto)]
 
 ghost use Rattle.std.specs.Prelude.{◌≡◌, true, ◌&&◌, ◌+◌, ◌<◌, ◌≤◌, take};
 ghost use Rattle.std.proofs.Math.Option.{some};
@@ -64,21 +65,21 @@ use records::{HeatJudged, Plant, PlantRecord, Source, SourceRecord};
 use rounding::Direction;
 
 // P and B, which the default factor compares, and P' and B', which the default losses compare.
-#[derive(Drop)]
+#[derive(Clone, Copy)]
 struct Totals {
     factor: Consumption,
     loss: Consumption,
 }
 
 // The totals of the sources that stand, or that one of them is not such as an entry leaves.
-#[derive(Drop)]
+#[derive(Clone, Copy)]
 enum TotalsSummed {
     Damaged,
     Summed(Totals),
 }
 
 // The milligrams of plants, rounded up and down, and their generation in kWh.
-#[derive(Drop)]
+#[derive(Clone, Copy)]
 struct SiteSums {
     up: u64,
     down: u64,
@@ -86,28 +87,28 @@ struct SiteSums {
 }
 
 // The milligrams of a plant's fuel lines, rounded up and down.
-#[derive(Drop)]
+#[derive(Clone, Copy)]
 struct LineSums {
     up: u64,
     down: u64,
 }
 
 // These, or that a line is out of its limits.
-#[derive(Drop)]
+#[derive(Clone, Copy)]
 enum LinesSummed {
     Damaged,
     Summed(LineSums),
 }
 
 // The milligrams that count for a plant's electricity, or that its heat is not such as an entry leaves.
-#[derive(Drop)]
+#[derive(Clone, Copy)]
 enum Electricity {
     Damaged,
     Milligrams(u64),
 }
 
 // What a plant adds at its site, or that it is not such as an entry leaves.
-#[derive(Drop)]
+#[derive(Clone, Copy)]
 enum PlantSummed {
     Damaged,
     Summed(SiteSums),
@@ -115,14 +116,14 @@ enum PlantSummed {
 
 // Whether all plants that stand are such as entries leave, and then the sums of each site. An enum cannot hold
 // the array.
-#[derive(Drop)]
+#[derive(Clone, Copy)]
 struct SitesSummed {
     intact: bool,
     sites: [SiteSums; Plant::SITE_PLACES],
 }
 
 // The figure of a source: its emission factor F, its energy with losses U and its grams.
-#[derive(Drop)]
+#[derive(Clone, Copy)]
 struct Figure {
     factor: u32,
     energy: u64,
@@ -130,7 +131,7 @@ struct Figure {
 }
 
 // The figure, or the number of the refusal: 8 to 12.
-#[derive(Drop)]
+#[derive(Clone, Copy)]
 enum FigureJudged {
     Refused(u8),
     Given(Figure),
@@ -149,13 +150,13 @@ impl FigureJudged {
 }
 
 // A side's grams and the number of its standing sources, which has 64 bits so that no byte is padding.
-#[derive(Drop)]
+#[derive(Clone, Copy)]
 struct SideSum {
     grams: u64,
     sources: u64,
 }
 
-#[derive(Drop)]
+#[derive(Clone, Copy)]
 struct Sums {
     project: SideSum,
     leakage: SideSum,
@@ -163,21 +164,21 @@ struct Sums {
 }
 
 // All figures summed, or the first refusal with its source's number.
-#[derive(Drop)]
+#[derive(Clone, Copy)]
 enum Walked {
     Refused(u8, u8),
     Summed(Sums),
 }
 
 // A side of the report.
-#[derive(Drop)]
+#[derive(Clone, Copy)]
 pub struct SideReport {
     pub tonnes: u64,
     pub grams: u64,
     pub sources: u8,
 }
 
-#[derive(Drop)]
+#[derive(Clone, Copy)]
 pub struct Report {
     pub project: SideReport,
     pub leakage: SideReport,
@@ -186,7 +187,7 @@ pub struct Report {
 }
 
 // The answer to a report. `Damaged` answers for a ledger that no list of calls leaves.
-#[derive(Drop)]
+#[derive(Clone, Copy)]
 pub enum Reported {
     Damaged,
     Refused(u8),

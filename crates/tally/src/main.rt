@@ -1,4 +1,6 @@
 // Reads standard input to its end and prints the answers to its lines.
+#![tactic(auto)]
+
 ghost use Rattle.std.specs.Prelude.{◌≡◌, ◌+◌, ◌*◌, length};
 ghost use Rattle.answers.specs.Input.{input_limit, bytes_for_each};
 
