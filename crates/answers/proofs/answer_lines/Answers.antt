@@ -1,0 +1,98 @@
+-- `answers::answer_lines` meets its contract: what is left to put gives what the whole output gives. Assumes nothing.
+use mathlib.Core.Path.{◌≡◌, refl, sym, ap, ◌∙◌}
+use mathlib.Core.List.{List}
+use mathlib.Core.Logic.{⊎_elim}
+use Prim.Native.Nat.{ℕ, ◌*◌, ◌-◌, ◌≤◌}
+use native.Mathlib.Omega.{arith}
+use lib.ListN.{length, take, drop}
+use borrow.Author.Tests.{le-leb}
+use Rattle.text.specs.Parts.{Placed, placed, put, put_parts}
+use Rattle.text.proofs.Buffer.{after-fits}
+use Rattle.text.proofs.Puts.{put-nothing, put-part}
+use Rattle.records.specs.Records.{no_plant, no_source}
+use Rattle.report.specs.Report.{Reply}
+use Rattle.forms.specs.Calls.{line_call}
+use Rattle.answers.specs.Answers.{reply_parts}
+use Rattle.answers.specs.Input.{line_reply, output, needed}
+use Rattle.answers.proofs.Forms.{read-steps, read-replies}
+use Rattle.answers.proofs.Lines.{line-fits}
+use Rattle.answers.proofs.Owner.{Answered, no-form-answered, grid-answered, plant-answered, source-answered, report-answered}
+use Rattle.answers.proofs.Replies.{output-line-by-line, text_from, text_at, text-past}
+use Rattle.answers.proofs.Lengths.{output-fits}
+use Rattle.answers.proofs.answer_lines.Goals as goal
+
+within : (input d : List ℕ) → length input ≤ 65536 → 18 * length input ≤ length d → length (output input) ≤ length d
+within input d h k =
+    let n : needed input ≡ 18 * length input = rw (le-leb (length input) 65536 h) in
+    omega (arith, output-fits input)
+
+pub loop-at-init : goal.loop-at-init
+loop-at-init c =
+    let input = c.args.input.now in
+    let t : output input ≡ text_from c.new-ledger.result input 0 = output-line-by-line input c.requires.input_len_bound ∙ ap (λ l. text_from l input 0) (sym c.new-ledger.ensures) in
+    (rw t, omega (arith, within input c.args.buffer.now c.requires.input_len_bound c.requires.input_in_bounds, ap length t), refl)
+
+pub line_end-end-requires : goal.line_end-end-requires
+line_end-end-requires c = omega arith
+
+pub slice_bounds-read_line-count : goal.slice_bounds-read_line-count
+slice_bounds-read_line-count c = omega arith
+
+part-read-line-start : tie.Need-slice-bounds-read-line-start invariant-loop decreases-loop
+part-read-line-start c = omega arith
+
+part-read-line-end : tie.Need-slice-bounds-read-line-end invariant-loop decreases-loop
+part-read-line-end c =
+    omega (arith, line-fits c.before.before.before.before.before.before.args.input.now c.before.before.loop.at (omega arith))
+
+pub overflow_add-at : goal.overflow_add-at
+overflow_add-at c =
+    omega (arith, line-fits c.args.input.now c.loop-at.at (omega arith))
+
+pub loop-at-smaller : goal.loop-at-smaller
+loop-at-smaller c = omega arith
+
+-- Where the kinds of lines meet again, the ledger and the reply are those of the line that was read.
+met : (c : goal.Joined-kind)
+    → Answered c.loop-at.ledger c.read_line-line.result c.match-kind.ledger c.match-kind.reply
+unfolding no_plant no_source
+met c =
+    let L = c.loop-at.ledger in
+    let ln = c.read_line-line.result in 
+    ⊎_elim (λ w. rw (w.2, w.3) (no-form-answered L ln w.1.given.1))
+    (⊎_elim
+    (λ w. rw (w.6, w.7) (grid-answered L ln w.1.given.1 _ _ _ w.3.ensures.0 w.3.ensures.1 w.5.ensures))
+    (⊎_elim
+    (λ w. rw (w.7, w.8) (plant-answered L ln _ refl w.1.given.1 _ _ _ w.4.ensures.0 w.4.ensures.1 w.6.ensures))
+    (⊎_elim
+    (λ w. rw (w.7, w.8) (source-answered L ln _ refl w.1.given.1 _ _ _ w.4.ensures.0 w.4.ensures.1 w.6.ensures))
+    (λ w. rw (w.6, w.7) (report-answered L ln w.1.given.1 _ w.5.ensures)))))
+    c.match-kind.branch
+
+pub loop-at-preserved : goal.loop-at-preserved
+loop-at-preserved c =
+    let l = c.loop-at in
+    let input = c.args.input.now in
+    let line = take (c.line_end-end.result - l.at) (drop l.at input) in
+    let done = met (goal.at.loop-at-preserved c).Joined-kind in
+    let asked = c.read_line-line.ensures in
+    let t = text_at l.ledger input l.at c.line_end-end.result c.loop-at-test.true c.line_end-end.ensures in
+    let told = done.told ∙ read-replies l.ledger line _ _ asked in
+    let put_all_lem = c.put_reply-next.ensures ∙ ap (λ (x : Reply). put_parts (placed l.buffer l.next) (reply_parts x)) told in
+    let left = put-part l.buffer l.next (reply_parts (line_reply l.ledger (line_call line))) _ (rw t at l.invariant.1) put_all_lem in
+    rw (done.ledger ∙ read-steps l.ledger line _ _ asked)
+    (left.0 ∙ ap (put (placed l.buffer l.next)) (sym t) ∙ l.invariant.0, left.1, c.put_reply-next.auto.0 ∙ l.invariant.2)
+
+pub shape_of-buffer : goal.shape_of-buffer
+shape_of-buffer c = c.loop-at.invariant.2
+
+pub returns : goal.returns
+returns c =
+    let l = c.loop-at in
+    let input = c.args.input.now in
+    let d = c.args.buffer.now in
+    let none = text-past l.ledger input l.at c.loop-at-test.false in
+    let fits = rw none at l.invariant.1 in
+    let whole = sym (put-nothing l.buffer l.next (omega arith)) ∙ ap (put (placed l.buffer l.next)) (sym none) ∙ l.invariant.0 in
+    let next = after-fits d 0 (output input) (omega (arith, within input d c.requires.input_len_bound c.requires.input_in_bounds)) in
+    (omega (arith, ap (λ (p : Placed). p.next) whole), ap (λ (p : Placed). p.buffer) whole)

@@ -1,0 +1,12 @@
+-- `answers::line::put_refused` meets its contract: the puts in their order. Assumes nothing.
+use Rattle.text.proofs.Puts.{put_first, put_last}
+use Rattle.answers.specs.Answers.{reply_parts}
+use Rattle.answers.proofs.line.put_refused.Goals as goal
+
+pub returns : goal.returns
+unfolding reply_parts
+returns c =
+    put_first _ _ _ _ c.put_word-digits.ensures
+    (put_first _ _ _ _ c.put_decimal-end.ensures
+    (put_first _ _ _ _ c.put_word.ensures
+    (put_last _)))

@@ -1,0 +1,69 @@
+-- `forms::part::read_loss` meets its contract: what is left of the table after the rows that are not read reads what the whole reads. Assumes nothing.
+use mathlib.Core.Path.{sym, ap, ◌∙◌}
+use mathlib.Core.List.{List}
+use Prim.Native.Nat.{ℕ}
+use lib.ListN.{drop}
+use Rattle.text.specs.Template.{map_read}
+use Rattle.forms.specs.Reading.{losses}
+use Rattle.forms.specs.Calls.{fitted_loss}
+use Rattle.forms.proofs.Rows.{Left, row-passed, row_read, no_row}
+use Rattle.forms.proofs.part.read_loss.Goals as goal
+
+-- The text at the place.
+abbrev text : goal.Start → List ℕ
+text p = drop p.args.at p.args.line.now
+
+pub returns-in-Match : goal.returns-in-Match
+unfolding losses
+returns-in-Match c =
+    rw c.half_field.ensures
+    (sym
+    (ap (map_read fitted_loss)
+    (row_read _ _ _ _ _ c.read_template.ensures _ _ c.in-Match.is)))
+
+left-1 : (p : goal.In_default) → Left losses 1 (text p)
+unfolding losses
+left-1 p = row-passed _ _ _ _ _ p.read_template.ensures p.in_default.is
+
+pub returns-in-Match-read_template : goal.returns-in-Match-read_template
+unfolding losses
+returns-in-Match-read_template c =
+    sym
+    (ap (map_read fitted_loss)
+    (left-1 (goal.at.returns-in-Match-read_template c).After-read_template-arg-3-1
+    ∙ row_read _ _ _ _ _ c.read_template-2.ensures _ _ c.in-Match-read_template.is))
+
+left-2 : (p : goal.In_default-read_template) → Left losses 2 (text p)
+unfolding losses
+left-2 p = left-1 p ∙ row-passed _ _ _ _ _ p.read_template-2.ensures p.in_default-read_template.is
+
+pub returns-in-Match-read_template-2 : goal.returns-in-Match-read_template-2
+unfolding losses
+returns-in-Match-read_template-2 c =
+    sym
+    (ap (map_read fitted_loss)
+    (left-2 (goal.at.returns-in-Match-read_template-2 c).After-read_template-arg-5-1
+    ∙ row_read _ _ _ _ _ c.read_template-3.ensures _ _ c.in-Match-read_template-2.is))
+
+left-3 : (p : goal.In_default-read_template-2)
+    → Left losses 3
+    (text p)
+unfolding losses
+left-3 p = left-2 p ∙ row-passed _ _ _ _ _ p.read_template-3.ensures p.in_default-read_template-2.is
+
+pub returns-in-Match-read_template-3 : goal.returns-in-Match-read_template-3
+unfolding losses
+returns-in-Match-read_template-3 c =
+    sym
+    (ap (map_read fitted_loss)
+    (left-3 (goal.at.returns-in-Match-read_template-3 c).After-read_template-arg-7-1
+    ∙ row_read _ _ _ _ _ c.read_template-4.ensures _ _ c.in-Match-read_template-3.is))
+
+pub returns : goal.returns
+unfolding losses
+returns c =
+    sym
+    (ap (map_read fitted_loss)
+    (left-3 (goal.at.returns c).After-read_template-arg-7-1
+    ∙ row-passed _ _ _ _ _ c.read_template-4.ensures c.in_default-read_template-3.is
+    ∙ no_row _))
