@@ -74,7 +74,7 @@ loop-at-preserved c =
     let l = c.loop-at in
     let input = c.args.input.now in
     let line = take (c.line_end-end.result - l.at) (drop l.at input) in
-    let done = met (goal.at.loop-at-preserved c).Joined-kind in
+    let done = met c.before.before.before.before in
     let asked = c.read_line-line.ensures in
     let t = text_at l.ledger input l.at c.line_end-end.result c.loop-at-test.true c.line_end-end.ensures in
     let told = done.told ∙ read-replies l.ledger line _ _ asked in
@@ -95,4 +95,4 @@ returns c =
     let fits = rw none at l.invariant.1 in
     let whole = sym (put-nothing l.buffer l.next (omega arith)) ∙ ap (put (placed l.buffer l.next)) (sym none) ∙ l.invariant.0 in
     let next = after-fits d 0 (output input) (omega (arith, within input d c.requires.input_len_bound c.requires.input_in_bounds)) in
-    (omega (arith, ap (λ (p : Placed). p.next) whole), ap (λ (p : Placed). p.buffer) whole)
+    record { value = omega (arith, ap (λ (p : Placed). p.next) whole); buffer_after = ap (λ (p : Placed). p.buffer) whole }

@@ -50,4 +50,4 @@ unfolding grams_of
 returns c =
     let a = c.args in
     sym (both a.direction a.energy a.loss a.factor _ _ c.if-energy-gt-ENERGY_LIMIT.false c.if-loss-gt-LIMIT.false
-    c.if-factor-gt-FACTOR_LIMIT.false (with-losses (goal.at.returns c).After-divide-with_losses) c.divide.ensures)
+    c.if-factor-gt-FACTOR_LIMIT.false (with-losses c.before) c.divide.ensures)

@@ -12,25 +12,28 @@ pub returns-in_default : goal.returns-in_default
 unfolding grid_in
 returns-in_default c =
     let s = c.args.line.now in
-    nothing_read s (grid_in s) c.no_form.ensures (rw (template-read _ s 0 c.read_template.ensures c.in_default.is))
+    let both = nothing_read s (grid_in s) c.no_form.ensures (rw (template-read _ s 0 c.read_template.ensures c.in_default.is)) in
+    record { call = both.0; parts = both.1 }
 
 pub returns-in_default-read_kind : goal.returns-in_default-read_kind
 unfolding grid_in
 returns-in_default-read_kind c =
     let s = c.args.line.now in
-    nothing_read s (grid_in s) c.no_form-in_default-read_kind.ensures
+    let both = nothing_read s (grid_in s) c.no_form-in_default-read_kind.ensures
     (rw (
       template-read _ s 0 c.read_template.ensures c.in-Match.is,
       sym c.read_kind.ensures ∙ ap (kind_meaning s) c.in_default-read_kind.is,
-    ))
+    )) in
+    record { call = both.0; parts = both.1 }
 
 pub returns : goal.returns
 unfolding grid_in call_of fitted
 returns c =
     let s = c.args.line.now in
-    grid-read s (grid_in s) (grid c.in-Match.numbers.first c.in-Found.kind) _ c.in-Found.next c.grid_line.ensures
+    let both = grid-read s (grid_in s) (grid c.in-Match.numbers.first c.in-Found.kind) _ c.in-Found.next c.grid_line.ensures
     (rw (
       template-read _ s 0 c.read_template.ensures c.in-Match.is,
       sym c.read_kind.ensures ∙ ap (kind_meaning s) c.in-Found.is,
     ))
-    (rw c.word_field.ensures)
+    (rw c.word_field.ensures) in
+    record { call = both.0; parts = both.1 }

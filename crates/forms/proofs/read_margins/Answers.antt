@@ -19,47 +19,52 @@ text p = p.args.line.now
 pub returns-in_default : goal.returns-in_default
 unfolding margins_in
 returns-in_default c =
-    let s = text (goal.at.returns-in_default c).After-shared_slice_known-1 in
-    nothing_read s (margins_in s) c.no_form.ensures (rw (template-read _ s 0 c.read_template.ensures c.in_default.is))
-
--- The two margins, and then the weights.
-figures-read : (p : goal.In-Match-2) → let s = text p in 
-    template_in margins_opening s ≡ found s p.in-Match.figures p.in-Match.at
-figures-read p = template-read _ (text p) 0 p.read_template.ensures p.in-Match.is
+    let s = text c.before.before.before.before.before.before in
+    let both = nothing_read s (margins_in s) c.no_form.ensures (rw (template-read _ s 0 c.read_template.ensures c.in_default.is)) in
+    record { call = both.0; parts = both.1 }
 
 pub returns-in_default-read_template : goal.returns-in_default-read_template
 unfolding margins_in
 returns-in_default-read_template c =
-    let s = text (goal.at.returns-in_default-read_template c).After-read_template-arg-1 in
-    nothing_read s (margins_in s) c.no_form-in_default-read_template.ensures
+    let figures-read : let s = text c.before.before.before.before.before in
+    template_in margins_opening s ≡ found s c.in-Match.figures c.in-Match.at = template-read _ (text c.before.before.before.before.before) 0 c.read_template.ensures c.in-Match.is in
+    let s = text c.before.before.before.before.before.before.before.before.before.before.before in
+    let both = nothing_read s (margins_in s) c.no_form-in_default-read_template.ensures
     (rw (
-      figures-read (goal.at.returns-in_default-read_template c).In-Match,
+      figures-read,
       template-read _ s _ c.read_template-2.ensures c.in_default-read_template.is,
-    ))
-
-weights-read : (p : goal.In-Match-read_template-2) → let s = text p in 
-    template_in weights_part (drop p.in-Match.at s) ≡ found s p.in-Match-read_template.percents p.in-Match-read_template.after_percents
-weights-read p = template-read _ (text p) _ p.read_template-2.ensures p.in-Match-read_template.is
+    )) in
+    record { call = both.0; parts = both.1 }
 
 pub returns-in_default-read_kind : goal.returns-in_default-read_kind
 unfolding margins_in
 returns-in_default-read_kind c =
-    let s = text (goal.at.returns-in_default-read_kind c).After-read_template-arg-1 in
-    nothing_read s (margins_in s) c.no_form-in_default-read_kind.ensures
+    let figures-read : let s = text c.before.before.before.before.before in
+    template_in margins_opening s ≡ found s c.in-Match.figures c.in-Match.at = template-read _ (text c.before.before.before.before.before) 0 c.read_template.ensures c.in-Match.is in
+    let weights-read : let s = text c.before.before.before.before.before.before.before.before.before.before in
+    template_in weights_part (drop c.in-Match.at s) ≡ found s c.in-Match-read_template.percents c.in-Match-read_template.after_percents = template-read _ (text c.before.before.before.before.before.before.before.before.before.before) _ c.read_template-2.ensures c.in-Match-read_template.is in
+    let s = text c.before.before.before.before.before.before.before.before.before.before.before.before.before.before.before in
+    let both = nothing_read s (margins_in s) c.no_form-in_default-read_kind.ensures
     (rw (
-      figures-read (goal.at.returns-in_default-read_kind c).In-Match,
-      weights-read (goal.at.returns-in_default-read_kind c).In-Match-read_template-2,
+      figures-read,
+      weights-read,
       sym c.read_kind.ensures ∙ ap (kind_meaning s) c.in_default-read_kind.is,
-    ))
+    )) in
+    record { call = both.0; parts = both.1 }
 
 pub returns : goal.returns
 unfolding margins_in call_of fitted
 returns c =
-    let s = text (goal.at.returns c).After-read_template-arg-1 in
-    grid-read s (margins_in s) (margins c.in-Match.figures.first c.in-Match.figures.second c.in-Match-read_template.percents.first c.in-Match-read_template.percents.second c.in-Found.kind) _ c.in-Found.next c.grid_line.ensures
+    let figures-read : let s = text c.before.before.before.before.before in
+    template_in margins_opening s ≡ found s c.in-Match.figures c.in-Match.at = template-read _ (text c.before.before.before.before.before) 0 c.read_template.ensures c.in-Match.is in
+    let weights-read : let s = text c.before.before.before.before.before.before.before.before.before.before in
+    template_in weights_part (drop c.in-Match.at s) ≡ found s c.in-Match-read_template.percents c.in-Match-read_template.after_percents = template-read _ (text c.before.before.before.before.before.before.before.before.before.before) _ c.read_template-2.ensures c.in-Match-read_template.is in
+    let s = text c.before.before.before.before.before.before.before.before.before.before.before.before.before.before.before.before.before.before.before.before in
+    let both = grid-read s (margins_in s) (margins c.in-Match.figures.first c.in-Match.figures.second c.in-Match-read_template.percents.first c.in-Match-read_template.percents.second c.in-Found.kind) _ c.in-Found.next c.grid_line.ensures
     (rw (
-      figures-read (goal.at.returns c).In-Match,
-      weights-read (goal.at.returns c).In-Match-read_template-2,
+      figures-read,
+      weights-read,
       sym c.read_kind.ensures ∙ ap (kind_meaning s) c.in-Found.is,
     ))
-    (rw (c.byte_field.ensures, c.byte_field-2.ensures, c.word_field.ensures, c.word_field-2.ensures))
+    (rw (c.byte_field.ensures, c.byte_field-2.ensures, c.word_field.ensures, c.word_field-2.ensures)) in
+    record { call = both.0; parts = both.1 }

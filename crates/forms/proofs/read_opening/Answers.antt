@@ -12,58 +12,46 @@ text p = p.args.line.now
 pub returns-then-is_form : goal.returns-then-is_form
 unfolding opening_in
 returns-then-is_form c =
-    let s = text (goal.at.returns-then-is_form c).Start in (
-      read_first s c.read_grid-grid.result (grid_in s) _ c.read_grid-grid.ensures.call (sym c.is_form.ensures ∙ c.if-is_form.true),
-      c.read_grid-grid.ensures.parts,
-    )
+    let s = text c.before.before.before.before in record { call = read_first s c.read_grid-grid.result (grid_in s) _ c.read_grid-grid.ensures.call (sym c.is_form.ensures ∙ c.if-is_form.true); parts = c.read_grid-grid.ensures.parts }
 
-no-grid : (p : goal.Else-is_form) → let s = text p in opening_in s ≡ or_else (margins_in s) (or_else (plant_in s) (or_else (source_in s) (one_of others s)))
+no-grid : (p : goal.Else-is_form) → let s = text p.before.before.before.before in opening_in s ≡ or_else (margins_in s) (or_else (plant_in s) (or_else (source_in s) (one_of others s)))
 unfolding opening_in
 no-grid p =
-    let s = text p in
+    let s = text p.before.before.before.before in
     read_next s p.read_grid-grid.result (grid_in s) _ p.read_grid-grid.ensures.call (sym p.is_form.ensures ∙ p.if-is_form.false)
 
 pub returns-then-is_form-2 : goal.returns-then-is_form-2
 returns-then-is_form-2 c =
-    let s = text (goal.at.returns-then-is_form-2 c).Start in (
-      rw (no-grid (goal.at.returns-then-is_form-2 c).Else-is_form)
-          (read_first s c.read_margins-margins.result (margins_in s) _ c.read_margins-margins.ensures.call (sym c.is_form-2.ensures ∙ c.if-is_form-2.true)),
-      c.read_margins-margins.ensures.parts,
-    )
+    let s = text c.before.before.before.before.before.before.before in record { call = rw (no-grid c.before.before.before)
+          (read_first s c.read_margins-margins.result (margins_in s) _ c.read_margins-margins.ensures.call (sym c.is_form-2.ensures ∙ c.if-is_form-2.true)); parts = c.read_margins-margins.ensures.parts }
 
-no-margins : (p : goal.Else-is_form-2) → let s = text p in opening_in s ≡ or_else (plant_in s) (or_else (source_in s) (one_of others s))
+no-margins : (p : goal.Else-is_form-2) → let s = text p.before.before.before.before.before.before.before in opening_in s ≡ or_else (plant_in s) (or_else (source_in s) (one_of others s))
 no-margins p =
-    let s = text p in
-    no-grid p
+    let s = text p.before.before.before.before.before.before.before in
+    no-grid p.before.before.before
     ∙ read_next s p.read_margins-margins.result (margins_in s) _ p.read_margins-margins.ensures.call (sym p.is_form-2.ensures ∙ p.if-is_form-2.false)
 
 pub returns-then-is_form-3 : goal.returns-then-is_form-3
 returns-then-is_form-3 c =
-    let s = text (goal.at.returns-then-is_form-3 c).Start in (
-      rw (no-margins (goal.at.returns-then-is_form-3 c).Else-is_form-2)
-          (read_first s c.read_plant-plant.result (plant_in s) _ c.read_plant-plant.ensures.call (sym c.is_form-3.ensures ∙ c.if-is_form-3.true)),
-      c.read_plant-plant.ensures.parts,
-    )
+    let s = text c.before.before.before.before.before.before.before.before.before.before in record { call = rw (no-margins c.before.before.before)
+          (read_first s c.read_plant-plant.result (plant_in s) _ c.read_plant-plant.ensures.call (sym c.is_form-3.ensures ∙ c.if-is_form-3.true)); parts = c.read_plant-plant.ensures.parts }
 
-no-plant : (p : goal.Else-is_form-3) → let s = text p in opening_in s ≡ or_else (source_in s) (one_of others s)
+no-plant : (p : goal.Else-is_form-3) → let s = text p.before.before.before.before.before.before.before.before.before.before in opening_in s ≡ or_else (source_in s) (one_of others s)
 no-plant p =
-    let s = text p in
-    no-margins p
+    let s = text p.before.before.before.before.before.before.before.before.before.before in
+    no-margins p.before.before.before
     ∙ read_next s p.read_plant-plant.result (plant_in s) _ p.read_plant-plant.ensures.call (sym p.is_form-3.ensures ∙ p.if-is_form-3.false)
 
 pub returns-then-is_form-4 : goal.returns-then-is_form-4
 returns-then-is_form-4 c =
-    let s = text (goal.at.returns-then-is_form-4 c).Start in (
-      rw (no-plant (goal.at.returns-then-is_form-4 c).Else-is_form-3)
-          (read_first s c.read_source-source.result (source_in s) _ c.read_source-source.ensures.call (sym c.is_form-4.ensures ∙ c.if-is_form-4.true)),
-      c.read_source-source.ensures.parts,
-    )
+    let s = text c.before.before.before.before.before.before.before.before.before.before.before.before.before in record { call = rw (no-plant c.before.before.before)
+          (read_first s c.read_source-source.result (source_in s) _ c.read_source-source.ensures.call (sym c.is_form-4.ensures ∙ c.if-is_form-4.true)); parts = c.read_source-source.ensures.parts }
 
-no_source_lem : (p : goal.Else-is_form-4) → let s = text p in opening_in s ≡ one_of others s
+no_source_lem : (p : goal.Else-is_form-4) → let s = text p.before.before.before.before.before.before.before.before.before.before.before.before.before in opening_in s ≡ one_of others s
 no_source_lem p =
-    let s = text p in
-    no-plant p
+    let s = text p.before.before.before.before.before.before.before.before.before.before.before.before.before in
+    no-plant p.before.before.before
     ∙ read_next s p.read_source-source.result (source_in s) _ p.read_source-source.ensures.call (sym p.is_form-4.ensures ∙ p.if-is_form-4.false)
 
 pub returns : goal.returns
-returns c = (rw (no_source_lem (goal.at.returns c).Else-is_form-4) c.read_other.ensures.call, c.read_other.ensures.parts)
+returns c = record { call = rw (no_source_lem c.before) c.read_other.ensures.call; parts = c.read_other.ensures.parts }

@@ -27,14 +27,14 @@ returns-in-Match-read_template c =
     rw (c.plain_line-in-Match-read_template.ensures, c.byte_field-in-Match-read_template.ensures) (
       sym
           (ap (map_read fitted_call)
-          (left-1 (goal.at.returns-in-Match-read_template c).After-read_template-arg-3-1
+          (left-1 c.before.before.before.before.before.before.before
           ∙ row_read _ _ _ _ _ c.read_template-2.ensures _ _ c.in-Match-read_template.is)),
       refl,
     )
 
 left-2 : (p : goal.In_default-read_template) → Left others 2 p.args.line.now
 unfolding others
-left-2 p = left-1 p ∙ row-passed _ _ _ _ _ p.read_template-2.ensures p.in_default-read_template.is
+left-2 p = left-1 p.before.before.before.before ∙ row-passed _ _ _ _ _ p.read_template-2.ensures p.in_default-read_template.is
 
 pub returns-in-Match-read_template-2 : goal.returns-in-Match-read_template-2
 unfolding others call_of fitted line_of plain_line
@@ -42,7 +42,7 @@ returns-in-Match-read_template-2 c =
     rw c.plain_line-in-Match-read_template-2.ensures (
       sym
           (ap (map_read fitted_call)
-          (left-2 (goal.at.returns-in-Match-read_template-2 c).After-read_template-arg-5-1
+          (left-2 c.before.before.before.before.before.before
           ∙ row_read _ _ _ _ _ c.read_template-3.ensures _ _ c.in-Match-read_template-2.is)),
       refl,
     )
@@ -50,7 +50,8 @@ returns-in-Match-read_template-2 c =
 pub returns : goal.returns
 unfolding others
 returns c =
-    nothing_read _ _ c.no_form.ensures
-    (left-2 (goal.at.returns c).After-read_template-arg-5-1
+    let both = nothing_read _ _ c.no_form.ensures
+    (left-2 c.before.before.before.before.before
     ∙ row-passed _ _ _ _ _ c.read_template-3.ensures c.in_default-read_template-2.is
-    ∙ no_row _)
+    ∙ no_row _) in
+    record { call = both.0; parts = both.1 }

@@ -12,14 +12,14 @@ pub returns-in_default : goal.returns-in_default
 unfolding plant_in
 returns-in_default c =
     let s = c.args.line.now in
-    nothing_read s (plant_in s) c.no_form.ensures (rw (template-read _ s 0 c.read_template.ensures c.in_default.is))
+    let both = nothing_read s (plant_in s) c.no_form.ensures (rw (template-read _ s 0 c.read_template.ensures c.in_default.is)) in
+    record { call = both.0; parts = both.1 }
 
 pub returns : goal.returns
 unfolding plant_in call_of fitted line_of plain_line
 returns c =
     let s = c.args.line.now in
-    (
-      rw (
+    record { call = rw (
         template-read _ s 0 c.read_template.ensures c.in-Match.is,
         c.byte_field.ensures,
         c.word_field.ensures,
@@ -31,6 +31,4 @@ returns c =
         c.read_heat-heat.ensures.heat,
         c.read_heat-heat.ensures.rest,
         map-four fitted_line no_line _ refl,
-      ),
-      rw c.plain_line-empty.ensures,
-    )
+      ); parts = rw c.plain_line-empty.ensures }

@@ -45,23 +45,28 @@ returns-then-ratios_fit-eqfalse c =
     refused-2 a.direction a.count a.meters
     (second-fails (leb 1 a.count && leb a.count 4) _ (tested _ _ c.ratios_fit.ensures true c.if-ratios_fit-eqfalse.true))
 
--- What the loop gave, of a count from 1 to 4 and ratios in their range.
-judged : (c : goal.After-read_meters) (r : MeterRead) → c.read_meters.result ≡ r
-    → let a = c.args in judged_of r ≡ judged_meters a.direction a.count a.meters
-judged c r e =
-    let a = c.args in 
-    counted a.direction a.count a.meters r (pos_of_ne-zero c.if-count-eq0.false) c.if-count-gt-COUNT_LIMIT.false
-    (tested _ _ c.ratios_fit.ensures false c.if-ratios_fit-eqfalse.false) (sym e ∙ c.read_meters.ensures)
-
 pub returns-in_default : goal.returns-in_default
-returns-in_default c = judged (goal.at.returns-in_default c).After-read_meters _ c.in_default.is
+returns-in_default c =
+    let judged : (r : MeterRead) → c.read_meters.result ≡ r
+    → let a = c.args in judged_of r ≡ judged_meters a.direction a.count a.meters = λ r e. let a = c.args in
+    counted a.direction a.count a.meters r (pos_of_ne-zero c.if-count-eq0.false) c.if-count-gt-COUNT_LIMIT.false
+    (tested _ _ c.ratios_fit.ensures false c.if-ratios_fit-eqfalse.false) (sym e ∙ c.read_meters.ensures) in
+    judged _ c.in_default.is
 
 pub returns-then-back : goal.returns-then-back
 returns-then-back c =
-    judged (goal.at.returns-then-back c).After-read_meters (Moved c.in-Moved.adds c.in-Moved.takes true)
+    let judged : (r : MeterRead) → c.read_meters.result ≡ r
+    → let a = c.args in judged_of r ≡ judged_meters a.direction a.count a.meters = λ r e. let a = c.args in
+    counted a.direction a.count a.meters r (pos_of_ne-zero c.if-count-eq0.false) c.if-count-gt-COUNT_LIMIT.false
+    (tested _ _ c.ratios_fit.ensures false c.if-ratios_fit-eqfalse.false) (sym e ∙ c.read_meters.ensures) in
+    judged (Moved c.in-Moved.adds c.in-Moved.takes true)
     (c.in-Moved.is ∙ ap (Moved c.in-Moved.adds c.in-Moved.takes) c.if-back.true)
 
 pub returns : goal.returns
 returns c =
-    judged (goal.at.returns c).After-read_meters (Moved c.in-Moved.adds c.in-Moved.takes false)
+    let judged : (r : MeterRead) → c.read_meters.result ≡ r
+    → let a = c.args in judged_of r ≡ judged_meters a.direction a.count a.meters = λ r e. let a = c.args in
+    counted a.direction a.count a.meters r (pos_of_ne-zero c.if-count-eq0.false) c.if-count-gt-COUNT_LIMIT.false
+    (tested _ _ c.ratios_fit.ensures false c.if-ratios_fit-eqfalse.false) (sym e ∙ c.read_meters.ensures) in
+    judged (Moved c.in-Moved.adds c.in-Moved.takes false)
     (c.in-Moved.is ∙ ap (Moved c.in-Moved.adds c.in-Moved.takes) c.if-back.false)

@@ -13,22 +13,22 @@ use Rattle.metering.proofs.Energy.{joined, at_first, stops, goes_on, meter-withi
 use Rattle.metering.proofs.read_meters.Goals as goal
 
 -- There are four meters.
-room : (c : goal.Start) → c.args.count ≤ length c.args.t1
+room : (c : goal.Start) → c.args.count ≤ length c.args.meters
 room c = le_trans c.requires (le_of_eq (sym c.well_formed.0.1.0.1))
 
 -- What the meter gave is within the limit.
 bounded : (c : goal.In-Moved) → (c.in-Moved.adding ≤ limit) × (c.in-Moved.taking ≤ limit)
 bounded c =
-    meter-within c.args.direction (get_or c.args.t1 c.loop-i.i _) _ _ _
+    meter-within c.args.direction (get_or c.args.meters c.loop-i.i _) _ _ _
     (sym c.read_meter.ensures ∙ c.in-Moved.is)
 
 pub loop-i-init : goal.loop-i-init
-loop-i-init c = (zero-le, at_first c.args.direction c.args.t1 c.args.count, zero-le, zero-le)
+loop-i-init c = (zero-le, at_first c.args.direction c.args.meters c.args.count, zero-le, zero-le)
 
 pub returns-in_default : goal.returns-in_default
 returns-in_default c =
-    stops c.args.direction c.args.t1 c.args.count c.loop-i.i _ c.loop-i.adds c.loop-i.takes c.loop-i.back
-    c.loop-i-test.true (room (goal.at.returns-in_default c).Start) c.loop-i.invariant.1
+    stops c.args.direction c.args.meters c.args.count c.loop-i.i _ c.loop-i.adds c.loop-i.takes c.loop-i.back
+    c.loop-i-test.true (room c.before.before.before.before.before.before) c.loop-i.invariant.1
     (sym c.read_meter.ensures ∙ c.in_default.is)
 
 pub overflow_add-adds : goal.overflow_add-adds
@@ -41,8 +41,8 @@ pub loop-i-preserved : goal.loop-i-preserved
 loop-i-preserved c =
     (
       search rules,
-      goes_on c.args.direction c.args.t1 c.args.count c.loop-i.i _ c.loop-i.adds c.loop-i.takes c.loop-i.back
-          c.loop-i-test.true (room (goal.at.loop-i-preserved c).Start) c.loop-i.invariant.1
+      goes_on c.args.direction c.args.meters c.args.count c.loop-i.i _ c.loop-i.adds c.loop-i.takes c.loop-i.back
+          c.loop-i-test.true (room c.before.before.before.before.before.before.before) c.loop-i.invariant.1
           _ _ _ (sym c.read_meter.ensures ∙ c.in-Moved.is),
       omega (arith, (bounded c).0),
       omega (arith, (bounded c).1),
@@ -53,6 +53,6 @@ returns c =
     let a = c.args in
     let sums = Moved c.loop-i.adds c.loop-i.takes c.loop-i.back in
     sym (c.loop-i.invariant.1
-    ∙ ap (λ (k : ℕ). joined sums (meters_read a.direction (take k (drop c.loop-i.i a.t1)))) (sub-eq-zero_of_le c.loop-i-test.false)
+    ∙ ap (λ (k : ℕ). joined sums (meters_read a.direction (take k (drop c.loop-i.i a.meters)))) (sub-eq-zero_of_le c.loop-i-test.false)
     ∙ ap (joined sums) (meters-none a.direction)
     ∙ joined-none c.loop-i.adds c.loop-i.takes c.loop-i.back)

@@ -22,7 +22,7 @@ use Rattle.report.proofs.lines_summed.Invariants.{LinesBefore}
 use Rattle.report.proofs.lines_summed.Goals as goal
 
 -- There are four lines.
-room : (c : goal.Start) → c.args.count ≤ length c.args.t1
+room : (c : goal.Start) → c.args.count ≤ length c.args.lines
 room c = le_trans c.requires (le_of_eq (sym c.well_formed.0.1.0.1))
 
 -- The line in its turn, and what follows where it is found to be within its limits or not.
@@ -31,14 +31,14 @@ line c = get_or c.before.before.args.t1 c.before.loop.i no_line
 
 turn : (c : goal.In-loop-i) (t : Bool) → within_limits (line c) ≡ t
     → let a = c.args in 
-    (t && all_within_limits (drop (c.loop-i.i + 1) (take a.count a.t1))) ≡ all_within_limits (take a.count a.t1)
+    (t && all_within_limits (drop (c.loop-i.i + 1) (take a.count a.lines))) ≡ all_within_limits (take a.count a.lines)
 turn c t e =
     let a = c.args in 
-    sym (next-line within_limits a.t1 a.count c.loop-i.i no_line t c.loop-i-test.true (room c) e) ∙ c.loop-i.invariant.3
+    sym (next-line within_limits a.lines a.count c.loop-i.i no_line t c.loop-i-test.true (room c.before.before) e) ∙ c.loop-i.invariant.3
 
 damaged : (c : goal.In-loop-i) (dir : Direction) → line_milligrams dir (line c) ≡ refused 2
     → let a = c.args in 
-    Damaged ≡ lines_summed (take a.count a.t1)
+    Damaged ≡ lines_summed (take a.count a.lines)
 damaged c dir e = rw (sym (turn c false (line-beyond dir (line c) 2 e)))
 
 -- What it gave in each direction.
@@ -56,27 +56,27 @@ less c =
 -- What is summed up after the line.
 summed-on : (c : goal.In-loop-i) (dir : Direction) (s w : ℕ)
     → let a = c.args in 
-    LinesBefore dir a.t1 a.count c.loop-i.i s → line_milligrams dir (line c) ≡ given w
-    → LinesBefore dir a.t1 a.count (c.loop-i.i + 1) (s + w)
+    LinesBefore dir a.lines a.count c.loop-i.i s → line_milligrams dir (line c) ≡ given w
+    → LinesBefore dir a.lines a.count (c.loop-i.i + 1) (s + w)
 summed-on c dir s w h e =
     let a = c.args in 
     let g = line-gave dir (line c) w e in
-    sum-turn (rounded_milligrams dir) 3000000000000000 a.t1 a.count c.loop-i.i s (room c) h no_line w
+    sum-turn (rounded_milligrams dir) 3000000000000000 a.lines a.count c.loop-i.i s (room c.before.before) h no_line w
     c.loop-i-test.true g.1 (omega (arith, g.1, line-bound dir (line c) g.0))
 
 pub loop-i-init : goal.loop-i-init
 loop-i-init c =
-    let start : (dir : Direction) → LinesBefore dir c.args.t1 c.args.count 0 0 =
-    λ dir. sum-start (rounded_milligrams dir) 3000000000000000 c.args.t1 c.args.count in
+    let start : (dir : Direction) → LinesBefore dir c.args.lines c.args.count 0 0 =
+    λ dir. sum-start (rounded_milligrams dir) 3000000000000000 c.args.lines c.args.count in
     (zero-le, start Up, start Down, refl)
 
 pub returns-in_default : goal.returns-in_default
 returns-in_default c =
-    (damaged (goal.at.returns-in_default c).In-loop-i Up (sym c.milligrams-both.ensures.up ∙ ap milligrams_meaning c.in_default.is), tt)
+    record { summed = damaged c.before.before.before.before Up (sym c.milligrams-both.ensures.up ∙ ap milligrams_meaning c.in_default.is); bound = tt }
 
 pub returns-in_default-rounded_down : goal.returns-in_default-rounded_down
 returns-in_default-rounded_down c =
-    (damaged (goal.at.returns-in_default-rounded_down c).In-loop-i Down (sym c.milligrams-both.ensures.down ∙ ap milligrams_meaning c.in_default-rounded_down.is), tt)
+    record { summed = damaged c.before.before.before.before.before.before.before Down (sym c.milligrams-both.ensures.down ∙ ap milligrams_meaning c.in_default-rounded_down.is); bound = tt }
 
 pub overflow_add-up : goal.overflow_add-up
 overflow_add-up c =
@@ -105,12 +105,9 @@ returns c =
     let i = c.loop-i.i in
     let k = c.loop-i.invariant in
     let h = c.loop-i-test.false in
-    let r = room (goal.at.returns c).Start in
-    (
-      rw (
-        sym k.3 ∙ no_line_lem within_limits a.t1 a.count i h r,
-        sum-end (rounded_milligrams Up) 3000000000000000 a.t1 a.count i _ r k.1 h,
-        sum-end (rounded_milligrams Down) 3000000000000000 a.t1 a.count i _ r k.2 h,
-      ),
-      (omega (arith, c.requires, k.0, k.1.bound), omega (arith, c.requires, k.0, k.2.bound)),
-    )
+    let r = room c.before.before in
+    record { summed = rw (
+        sym k.3 ∙ no_line_lem within_limits a.lines a.count i h r,
+        sum-end (rounded_milligrams Up) 3000000000000000 a.lines a.count i _ r k.1 h,
+        sum-end (rounded_milligrams Down) 3000000000000000 a.lines a.count i _ r k.2 h,
+      ); bound = (omega (arith, c.requires, k.0, k.1.bound), omega (arith, c.requires, k.0, k.2.bound)) }

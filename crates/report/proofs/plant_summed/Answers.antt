@@ -37,11 +37,11 @@ lines-bound : (c : goal.In-Summed) → LinesWithin c.lines_summed.result
 lines-bound c = c.lines_summed.ensures.bound
 
 pub returns-then-plant-gt-SITE_LIMIT : goal.returns-then-plant-gt-SITE_LIMIT
-returns-then-plant-gt-SITE_LIMIT c = (rw (plant-site 0 c.args.plant zero-le c.if-plant-gt-SITE_LIMIT.true), tt)
+returns-then-plant-gt-SITE_LIMIT c = record { summed = rw (plant-site 0 c.args.plant zero-le c.if-plant-gt-SITE_LIMIT.true); bound = tt }
 
 pub returns-then-figures_fit-eqfalse : goal.returns-then-figures_fit-eqfalse
 returns-then-figures_fit-eqfalse c =
-    (rw (plant-figures 0 c.args.plant zero-le c.if-plant-gt-SITE_LIMIT.false (tested _ _ c.figures_fit.ensures true c.if-figures_fit-eqfalse.true)), tt)
+    record { summed = rw (plant-figures 0 c.args.plant zero-le c.if-plant-gt-SITE_LIMIT.false (tested _ _ c.figures_fit.ensures true c.if-figures_fit-eqfalse.true)); bound = tt }
 
 pub lines_summed-requires : goal.lines_summed-requires
 lines_summed-requires c = leb-true _ _ (and_both _ _ (fit c)).0
@@ -49,32 +49,29 @@ lines_summed-requires c = leb-true _ _ (and_both _ _ (fit c)).0
 pub returns-in_default : goal.returns-in_default
 returns-in_default c =
     let beyond = lines-damaged _ (sym c.in_default.is ∙ c.lines_summed.ensures.summed) in
-    (rw (plant-lines 0 (plant (goal.at.returns-in_default c).After-lines-1) zero-le c.if-plant-gt-SITE_LIMIT.false (fit (goal.at.returns-in_default c).After-lines-1) false beyond), tt)
+    record { summed = rw (plant-lines 0 (plant c.before.before.before) zero-le c.if-plant-gt-SITE_LIMIT.false (fit c.before.before.before) false beyond); bound = tt }
 
 pub baseline_milligrams-requires : goal.baseline_milligrams-requires
 baseline_milligrams-requires c = (subst LinesWithin c.in-Summed.is (lines-bound c)).1
 
 pub returns-in_default-baseline_milligrams : goal.returns-in_default-baseline_milligrams
 returns-in_default-baseline_milligrams c =
-    let l = at-lines (goal.at.returns-in_default-baseline_milligrams c).In-Summed in
-    let e = electricity-damaged (plant l) (fit l) l.before.before.before.if1.left (gave (goal.at.returns-in_default-baseline_milligrams c).In-Summed).0 _
+    let l = at-lines c.before.before.before in
+    let e = electricity-damaged (plant l) (fit l) l.before.before.before.if1.left (gave c.before.before.before).0 _
     (sym c.in_default-baseline_milligrams.is ∙ c.baseline_milligrams.ensures.counted) in
-    (rw e, tt)
+    record { summed = rw e; bound = tt }
 
 pub returns : goal.returns
 unfolding plant_milligrams electricity_milligrams
 returns c =
-    let l = at-lines (goal.at.returns c).In-Summed in
+    let l = at-lines c.before.before.before.before.before in
     let p = plant l in
-    let g = gave (goal.at.returns c).In-Summed in
+    let g = gave c.before.before.before.before.before in
     let k = electricity-is p (fit l) l.before.before.before.if1.left g.0 c.in-Summed.sums.down c.in-Milligrams.down
     (sym c.in-Milligrams.is ∙ c.baseline_milligrams.ensures.counted) g.2 in
-    let s = subst LinesWithin c.in-Summed.is (lines-bound (goal.at.returns c).In-Summed) in
-    let m = subst ElectricityWithin c.in-Milligrams.is c.baseline_milligrams.ensures.bound in (
-      rw (k.0, g.1, k.1),
-      record {
+    let s = subst LinesWithin c.in-Summed.is (lines-bound c.before.before.before.before.before) in
+    let m = subst ElectricityWithin c.in-Milligrams.is c.baseline_milligrams.ensures.bound in record { summed = rw (k.0, g.1, k.1); bound = record {
         up = omega (arith, s.0);
         down = omega (arith, m);
         generation = leb-true _ _ (and_both (leb p.count 4) _ (fit l)).1;
-      },
-    )
+      } }

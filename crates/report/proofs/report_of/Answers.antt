@@ -35,9 +35,6 @@ sources-pass : (c : goal.In-Summed)
 sources-pass c =
     totals-gave c.args.sources _ (sym c.in-Summed.is ∙ c.totals_of.ensures)
 
-plants-pass : (c : goal.Else-summed-eqfalse) → plants_intact c.args.plants ≡ true
-plants-pass c = tested _ _ c.site_sums-summed.ensures.intact false c.if-summed-eqfalse.false
-
 pub returns-then-is_intact-eqfalse : goal.returns-then-is_intact-eqfalse
 unfolding intact checked_report_of
 returns-then-is_intact-eqfalse c = rw (tested _ _ c.is_intact.ensures true c.if-is_intact-eqfalse.true)
@@ -52,11 +49,11 @@ returns-in_default c =
 pub returns-then-summed-eqfalse : goal.returns-then-summed-eqfalse
 unfolding intact checked_report_of
 returns-then-summed-eqfalse c =
-    rw (grid-passes (goal.at.returns-then-summed-eqfalse c).Else-is_intact-eqfalse, tested _ _ c.site_sums-summed.ensures.intact true c.if-summed-eqfalse.true)
+    rw (grid-passes c.before.before.before.before.before.before.before, tested _ _ c.site_sums-summed.ensures.intact true c.if-summed-eqfalse.true)
 
 pub walk-walked-requires : goal.walk-walked-requires
 walk-walked-requires c =
-    (grid-passes (goal.at.walk-walked-requires c).Else-is_intact-eqfalse, c.site_factors.ensures.bound, (sources-pass (goal.at.walk-walked-requires c).In-Summed).0)
+    (grid-passes c.before.before.before.before.before.before.before.before.before, c.site_factors.ensures.bound, (sources-pass c.before.before.before.before.before).0)
 
 -- The answer to the walk is the report's.
 walked-so : (c : goal.After-walk-walked) (v : Walked) → c.walk-walked.result ≡ v
@@ -68,18 +65,18 @@ walked-so c v e =
     let b = input_of_records a.grid a.plants a.sources in
     let factors = c.site_factors.result in 
     let table = table_is (site_of (site_plants a.plants)) c.site_sums-summed.result.sites factors (c.site_sums-summed.ensures.sites (tested _ _ refl false c.if-summed-eqfalse.false)) c.site_factors.ensures.factors in
-    rw (grid-passes c, plants-pass c, (sources-pass c).0) (
+    rw (grid-passes c.before.before.before.before.before.before.before.before.before.before, plants-pass c.before.before.before, (sources-pass c.before.before.before.before.before.before).0) (
     ap answer_to (sym e ∙ c.walk-walked.ensures.walked)
     ∙ ap (λ (t : Totals). answer_to (walked_of (figures_by (table_figure a.grid factors t) (standing (source_place a.sources) 0 32))))
-    (sources-pass c).1
-    ∙ ap (λ (x : Figures). answer_to (walked_of x)) (report-figures a.grid a.plants a.sources factors table (sources-pass c).0)
+    (sources-pass c.before.before.before.before.before.before).1
+    ∙ ap (λ (x : Figures). answer_to (walked_of x)) (report-figures a.grid a.plants a.sources factors table (sources-pass c.before.before.before.before.before.before).0)
     ∙ as-reported (figures_from b (sources_of b)))
 
 pub reported-requires : goal.reported-requires
 reported-requires c = subst WalkedWithin c.in-Summed-walked.is c.walk-walked.ensures.bound
 
 pub returns-in-Refused : goal.returns-in-Refused
-returns-in-Refused c = walked-so (goal.at.returns-in-Refused c).After-walk-walked _ c.in-Refused.is
+returns-in-Refused c = walked-so c.before.before.before _ c.in-Refused.is
 
 pub returns-in-Summed-walked : goal.returns-in-Summed-walked
-returns-in-Summed-walked c = c.reported.ensures ∙ walked-so (goal.at.returns-in-Summed-walked c).After-walk-walked _ c.in-Summed-walked.is
+returns-in-Summed-walked c = c.reported.ensures ∙ walked-so c.before.before.before.before _ c.in-Summed-walked.is

@@ -36,9 +36,9 @@ module _ (sites : List SiteSums) (a b c d : List FactorJudged)
 
 pub returns : goal.returns
 returns c =
-    let sites = c.args.t1 in
+    let sites = c.args.sites in
     let first = c.site_row-first.ensures in
     let second = c.site_row-second.ensures in
     let third = c.site_row-third.ensures in
     let last = c.site_row-last.ensures in
-    (rows sites _ _ _ _ first second third last, within sites _ _ _ _ first second third last)
+    record { factors = rows sites _ _ _ _ first second third last; bound = within sites _ _ _ _ first second third last }

@@ -16,33 +16,20 @@ use Rattle.report.proofs.Summing.{plant-stands, no-plant-stands, intact-next, no
 use Rattle.report.proofs.site_sums.Goals as goal
 
 -- There are eight records.
-inside : (c : goal.In-loop-i) → c.loop-i.i < length c.args.t1
+inside : (c : goal.In-loop-i) → c.loop-i.i < length c.args.plants
 inside c = rw c.well_formed.0.1.0.1 c.loop-i-test.true
 
 -- The plant that stands under the number.
 stands : (c : goal.After-plant-plant)
     → 
-    plant_place c.args.t1 c.loop-i.i ≡ some c.plant-plant.result
+    plant_place c.args.plants c.loop-i.i ≡ some c.plant-plant.result
 stands c =
-    plant-stands c.args.t1 c.loop-i.i _ _ (inside c) c.if-held.true c.plant-plant.ensures
-
--- What is summed up of it.
-gave : (c : goal.In-Summed)
-    → let p = c.plant-plant.result in 
-    (plant_intact (some p) ≡ true) × (c.in-Summed.more ≡ plant_sums (plain_of p))
-gave c =
-    plant-gave c.plant-plant.result _ (sym c.in-Summed.is ∙ c.plant_summed.ensures.summed)
-
-within : (c : goal.In-Summed) → SiteWithin 1 c.in-Summed.more
-within c = subst PlantWithin c.in-Summed.is c.plant_summed.ensures.bound
-
-site-fits : (c : goal.In-Summed) → c.plant-plant.result.site ≤ 3
-site-fits c = plant-site-fits _ (gave c).0
+    plant-stands c.args.plants c.loop-i.i _ _ (inside c.before.before.before) c.if-held.true c.plant-plant.ensures
 
 pub loop-i-init : goal.loop-i-init
 unfolding all_intact
 loop-i-init c =
-    let rs = c.args.t1 in
+    let rs = c.args.plants in
     let none-at : (S : ℕ) → S < 4 → no_plants ≡ get_or (replicate 4 c.empty-none.result) S no_plants =
     λ S h. sym (get_or-replicate 4 S c.empty-none.result no_plants h ∙ c.empty-none.ensures) in (
       zero-le,
@@ -53,51 +40,73 @@ loop-i-init c =
 
 pub returns-in_default : goal.returns-in_default
 returns-in_default c =
-    let damaged = plant-damaged c.plant-plant.result (sym c.in_default.is ∙ c.plant_summed.ensures.summed) in (
-      sym (not-intact plant_intact (plant_place c.args.t1) 8 c.loop-i.i c.loop-i-test.true
-          (ap plant_intact (stands (goal.at.returns-in_default c).After-plant-plant) ∙ damaged)),
-      λ e. absurd (true≢false (sym e)),
-    )
+    let damaged = plant-damaged c.plant-plant.result (sym c.in_default.is ∙ c.plant_summed.ensures.summed) in record { intact = sym (not-intact plant_intact (plant_place c.args.plants) 8 c.loop-i.i c.loop-i-test.true
+          (ap plant_intact (stands c.before.before.before) ∙ damaged)); sites = λ e. absurd (true≢false (sym e)) }
 
 pub offset_bounds-sites-at : goal.offset_bounds-sites-at
-offset_bounds-sites-at c = record { fits = omega (arith, site-fits (goal.at.offset_bounds-sites-at c).In-Summed) }
+offset_bounds-sites-at c =
+    let gave : let p = c.plant-plant.result in
+    (plant_intact (some p) ≡ true) × (c.in-Summed.more ≡ plant_sums (plain_of p)) = plant-gave c.plant-plant.result _ (sym c.in-Summed.is ∙ c.plant_summed.ensures.summed) in
+    let site-fits : c.plant-plant.result.site ≤ 3 = plant-site-fits _ gave.0 in
+    record { fits = omega (arith, site-fits) }
 
 pub bounds-sites-at : goal.bounds-sites-at
-bounds-sites-at c = omega (arith, site-fits (goal.at.bounds-sites-at c).In-Summed)
+bounds-sites-at c =
+    let gave : let p = c.plant-plant.result in
+    (plant_intact (some p) ≡ true) × (c.in-Summed.more ≡ plant_sums (plain_of p)) = plant-gave c.plant-plant.result _ (sym c.in-Summed.is ∙ c.plant_summed.ensures.summed) in
+    let site-fits : c.plant-plant.result.site ≤ 3 = plant-site-fits _ gave.0 in
+    omega (arith, site-fits)
 
 pub plus-requires : goal.plus-requires
 plus-requires c =
+    let gave : let p = c.plant-plant.result in
+    (plant_intact (some p) ≡ true) × (c.in-Summed.more ≡ plant_sums (plain_of p)) = plant-gave c.plant-plant.result _ (sym c.in-Summed.is ∙ c.plant_summed.ensures.summed) in
+    let within : SiteWithin 1 c.in-Summed.more = subst PlantWithin c.in-Summed.is c.plant_summed.ensures.bound in
+    let site-fits : c.plant-plant.result.site ≤ 3 = plant-site-fits _ gave.0 in
     let h = c.loop-i-test.true in
-    (sums-widen (omega arith) (c.loop-i.invariant.3 _ (site-fits (goal.at.plus-requires c).In-Summed)).within, within (goal.at.plus-requires c).In-Summed)
+    let both = (sums-widen (omega arith) (c.loop-i.invariant.3 _ site-fits).within, within) in
+    record { None = both.0; None = both.1; None = both.2 }
 
 pub offset_bounds-sites-at-then-held : goal.offset_bounds-sites-at-then-held
-offset_bounds-sites-at-then-held c = record { fits = omega (arith, site-fits (goal.at.offset_bounds-sites-at-then-held c).In-Summed) }
+offset_bounds-sites-at-then-held c =
+    let gave : let p = c.plant-plant.result in
+    (plant_intact (some p) ≡ true) × (c.in-Summed.more ≡ plant_sums (plain_of p)) = plant-gave c.plant-plant.result _ (sym c.in-Summed.is ∙ c.plant_summed.ensures.summed) in
+    let site-fits : c.plant-plant.result.site ≤ 3 = plant-site-fits _ gave.0 in
+    record { fits = omega (arith, site-fits) }
 
 pub bounds-sites-at-then-held : goal.bounds-sites-at-then-held
-bounds-sites-at-then-held c = omega (arith, site-fits (goal.at.bounds-sites-at-then-held c).In-Summed)
+bounds-sites-at-then-held c =
+    let gave : let p = c.plant-plant.result in
+    (plant_intact (some p) ≡ true) × (c.in-Summed.more ≡ plant_sums (plain_of p)) = plant-gave c.plant-plant.result _ (sym c.in-Summed.is ∙ c.plant_summed.ensures.summed) in
+    let site-fits : c.plant-plant.result.site ≤ 3 = plant-site-fits _ gave.0 in
+    omega (arith, site-fits)
 
 pub loop-i-preserved : goal.loop-i-preserved
 loop-i-preserved c =
-    let rs = c.args.t1 in
+    let gave : let p = c.plant-plant.result in
+    (plant_intact (some p) ≡ true) × (c.in-Summed.more ≡ plant_sums (plain_of p)) = plant-gave c.plant-plant.result _ (sym c.in-Summed.is ∙ c.plant_summed.ensures.summed) in
+    let within : SiteWithin 1 c.in-Summed.more = subst PlantWithin c.in-Summed.is c.plant_summed.ensures.bound in
+    let site-fits : c.plant-plant.result.site ≤ 3 = plant-site-fits _ gave.0 in
+    let rs = c.args.plants in
     let i = c.loop-i.i in
     let h = c.loop-i-test.true in
     let intact : plant_intact (plant_place rs i) ≡ true → all_intact plant_intact (plant_place rs) (i + 1) ≡ true =
     λ e. intact-next plant_intact (plant_place rs) i e c.loop-i.invariant.1 in
     ⊎_elim
     (λ w.
-    let a : goal.After-plant-plant = record { before = record { before = (goal.at.loop-i-preserved c).After-held-1; if1 = w.0 }; plant = w.1 } in
+    let a : goal.After-plant-plant = record { before = record { before = c.before; if1 = w.0 }; plant = w.1 } in
     let b : goal.In-Summed =
     record { before = record { before = record { before = record { before = a; plant-summed = w.2 }; match = w.3 }; more = w.4 }; known-told = w.5 } in
     let p = w.1.result in
-    rw (w.9, w.8.ensures, (gave b).1) (
+    rw (w.9, w.8.ensures, gave.1) (
       search rules,
-      intact (ap plant_intact (stands a) ∙ (gave b).0),
+      intact (ap plant_intact (stands a) ∙ gave.0),
       length-set c.loop-i.sites p.site _ ∙ c.loop-i.invariant.2,
-      λ S m. sites-turn (plant_place rs) 8 i c.loop-i.sites p h (stands a) (omega (arith, c.loop-i.invariant.2, site-fits b))
-          (subst (SiteWithin 1) (gave b).1 (within b)) S (c.loop-i.invariant.3 S m),
+      λ S m. sites-turn (plant_place rs) 8 i c.loop-i.sites p h (stands a) (omega (arith, c.loop-i.invariant.2, site-fits))
+          (subst (SiteWithin 1) gave.1 within) S (c.loop-i.invariant.3 S m),
     ))
     (λ w.
-    let e = no-plant-stands rs i _ (inside (goal.at.loop-i-preserved c).In-loop-i) w.0.left in
+    let e = no-plant-stands rs i _ (inside c.before.before) w.0.left in
     rw w.1 (
       search rules,
       intact (ap plant_intact e),
@@ -108,6 +117,6 @@ loop-i-preserved c =
 
 pub returns : goal.returns
 returns c =
-    let place = plant_place c.args.t1 in
+    let place = plant_place c.args.plants in
     let i : c.loop-i.i ≡ 8 = omega (arith, c.loop-i.invariant.0, c.loop-i-test.false) in
-    (sym (rw i at c.loop-i.invariant.1), λ e S h. site-end S place 8 c.loop-i.i _ (c.loop-i.invariant.3 S h) c.loop-i-test.false)
+    record { intact = sym (rw i at c.loop-i.invariant.1); sites = λ e S h. site-end S place 8 c.loop-i.i _ (c.loop-i.invariant.3 S h) c.loop-i-test.false }

@@ -18,73 +18,76 @@ use Rattle.report.proofs.Summing.{source_fits}
 use Rattle.report.proofs.Walks.{open-limit, grams-limit, given-limit, no-factor, no-loss, both-parts}
 use Rattle.report.proofs.source_figure.Goals as goal
 
--- What the calls gave, by what is known of it.
-factored : (c : goal.After-factor-judged) (j : FactorJudged) → c.factor-judged.result ≡ j
-    → 
-    let a = c.args in 
-    factor_in (chosen c.direction-direction.result a.grid (λ S. factor_meaning a.captive) a.totals.factor a.source.supply) ≡ factor_meaning j
-factored c j e = sym c.factor-judged.ensures ∙ ap factor_meaning e
-
 pub returns-in_default : goal.returns-in_default
 returns-in_default c =
+    let factored : (j : FactorJudged) → c.factor-judged.result ≡ j
+    →
     let a = c.args in
-    (
-      ap refused (c.refusal.ensures ∙ ap factor_refusal c.in_default.is)
-          ∙ no-factor a.grid _ a.totals a.source _ c.direction-direction.ensures _ (factored (goal.at.returns-in_default c).After-factor-judged _ c.in_default.is),
-      tt,
-    )
-
-opened : (c : goal.After-judged-open) (j : LossJudged) → c.judged-open.result ≡ j
-    → 
-    let a = c.args in 
-    loss_of c.direction-direction.result a.totals.loss a.source.loss ≡ loss_meaning j
-opened c j e = sym c.judged-open.ensures ∙ ap loss_meaning e
+    factor_in (chosen c.direction-direction.result a.grid (λ S. factor_meaning a.captive) a.totals.factor a.source.supply) ≡ factor_meaning j = λ j e. sym c.factor-judged.ensures ∙ ap factor_meaning e in
+    let a = c.args in
+    record { figure = ap refused (c.refusal.ensures ∙ ap factor_refusal c.in_default.is)
+          ∙ no-factor a.grid _ a.totals a.source _ c.direction-direction.ensures _ (factored _ c.in_default.is); bound = tt }
 
 pub returns-in_default-open : goal.returns-in_default-open
 returns-in_default-open c =
+    let factored : (j : FactorJudged) → c.factor-judged.result ≡ j
+    →
     let a = c.args in
-    (
-      ap refused (c.refusal-in_default-open.ensures ∙ ap loss_refusal c.in_default-open.is)
+    factor_in (chosen c.direction-direction.result a.grid (λ S. factor_meaning a.captive) a.totals.factor a.source.supply) ≡ factor_meaning j = λ j e. sym c.factor-judged.ensures ∙ ap factor_meaning e in
+    let opened : (j : LossJudged) → c.judged-open.result ≡ j
+    →
+    let a = c.args in
+    loss_of c.direction-direction.result a.totals.loss a.source.loss ≡ loss_meaning j = λ j e. sym c.judged-open.ensures ∙ ap loss_meaning e in
+    let a = c.args in
+    record { figure = ap refused (c.refusal-in_default-open.ensures ∙ ap loss_refusal c.in_default-open.is)
           ∙ no-loss a.grid _ a.totals a.source _ c.direction-direction.ensures _
-          (factored (goal.at.returns-in_default-open c).In-Given-1 _ c.in-Given.is) _ (opened (goal.at.returns-in_default-open c).After-judged-open _ c.in_default-open.is),
-      tt,
-    )
+          (factored _ c.in-Given.is) _ (opened _ c.in_default-open.is); bound = tt }
 
 -- The energy, the loss and the factor are within their limits.
 limits : (c : goal.In-Given-open)
     → 
     (a.source.energy ≤ limit)
-    × (c.«open».given.0.0 ≤ 5000)
+    × (c.before.«open».given.0.0 ≤ 5000)
     × (c.in-Given.factor ≤ factor_limit)
 limits c =
     let fits = source_fits c.args.source c.requires.2 in (
       fits.2,
-      open-limit _ c.args.totals.loss c.args.source.loss _ fits.1 (opened c _ c.«open».given.1),
+      open-limit _ c.args.totals.loss c.args.source.loss _ fits.1 (opened c.before.before.before _ c.before.«open».given.1),
       given-limit c.args.grid _ c.args.totals c.args.source c.requires.0 (λ S. c.requires.1) _ _
-          (factored c _ c.in-Given.is),
+          (factored c.before.before.before.before.before.before.before _ c.in-Given.is),
     )
 
--- So the grams are worked out.
-worked : (c : goal.After-emissions_of-worked) (j : EmissionsJudged) → c.emissions_of-worked.result ≡ j
-    → 
-    let a = c.args in 
-    let dir = c.direction-direction.result in 
-    let U = energy_with_losses dir a.source.energy c.«open».given.0.0 in
-    emissions_meaning j ≡ some (record { energy = U; grams = grams_of dir U c.in-Given.factor })
-worked c j e =
-    let h = limits c in
-    sym (ap emissions_meaning e) ∙ c.emissions_of-worked.ensures ∙ emissions-within _ _ _ _ h.0 h.1 h.2
-
 pub returns-in_default-worked : goal.returns-in_default-worked
-returns-in_default-worked c = absurd (never-some (worked (goal.at.returns-in_default-worked c).After-emissions_of-worked _ c.in_default-worked.is))
+returns-in_default-worked c =
+    let worked : (j : EmissionsJudged) → c.emissions_of-worked.result ≡ j
+    →
+    let a = c.args in
+    let dir = c.direction-direction.result in
+    let U = energy_with_losses dir a.source.energy c.before.before.«open».given.0.0 in
+    emissions_meaning j ≡ some (record { energy = U; grams = grams_of dir U c.in-Given.factor }) = λ j e. let h = limits c.before in
+    sym (ap emissions_meaning e) ∙ c.emissions_of-worked.ensures ∙ emissions-within _ _ _ _ h.0 h.1 h.2 in
+    let both = absurd (never-some (worked _ c.in_default-worked.is)) in
+    record { figure = both.0; bound = both.1 }
 
 pub returns : goal.returns
 returns c =
+    let factored : (j : FactorJudged) → c.factor-judged.result ≡ j
+    →
     let a = c.args in
-    let h = limits (goal.at.returns c).In-Given-open in
-    let e = some-injective _ _ (worked (goal.at.returns c).After-emissions_of-worked _ c.in-Given-worked.is) in (
-      both-parts a.grid _ a.totals a.source _ c.direction-direction.ensures _
-          (factored (goal.at.returns c).In-Given-1 _ c.in-Given.is) _ _ _
-          (opened (goal.at.returns c).After-judged-open _ (goal.at.returns c).In-Given-open-2.«open».given.1) (ap (λ (x : Emissions). x.energy) e) (ap (λ (x : Emissions). x.grams) e),
-      rw (ap (λ (x : Emissions). x.grams) e) (grams-limit _ _ _ _ h.0 h.1 h.2),
-    )
+    factor_in (chosen c.direction-direction.result a.grid (λ S. factor_meaning a.captive) a.totals.factor a.source.supply) ≡ factor_meaning j = λ j e. sym c.factor-judged.ensures ∙ ap factor_meaning e in
+    let opened : (j : LossJudged) → c.judged-open.result ≡ j
+    →
+    let a = c.args in
+    loss_of c.direction-direction.result a.totals.loss a.source.loss ≡ loss_meaning j = λ j e. sym c.judged-open.ensures ∙ ap loss_meaning e in
+    let worked : (j : EmissionsJudged) → c.emissions_of-worked.result ≡ j
+    →
+    let a = c.args in
+    let dir = c.direction-direction.result in
+    let U = energy_with_losses dir a.source.energy c.before.before.«open».given.0.0 in
+    emissions_meaning j ≡ some (record { energy = U; grams = grams_of dir U c.in-Given.factor }) = λ j e. let h = limits c.before in
+    sym (ap emissions_meaning e) ∙ c.emissions_of-worked.ensures ∙ emissions-within _ _ _ _ h.0 h.1 h.2 in
+    let a = c.args in
+    let h = limits c.before.before.before.before in
+    let e = some-injective _ _ (worked _ c.in-Given-worked.is) in record { figure = both-parts a.grid _ a.totals a.source _ c.direction-direction.ensures _
+          (factored _ c.in-Given.is) _ _ _
+          (opened _ c.before.before.before.before.before.«open».given.1) (ap (λ (x : Emissions). x.energy) e) (ap (λ (x : Emissions). x.grams) e); bound = rw (ap (λ (x : Emissions). x.grams) e) (grams-limit _ _ _ _ h.0 h.1 h.2) }

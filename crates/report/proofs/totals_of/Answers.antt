@@ -18,7 +18,7 @@ use Rattle.report.proofs.totals_of.Goals as goal
 -- The source that was read is what stands under number i.
 standing-there : (c : goal.After-source-source)
     → 
-    source_place c.args.t1 c.loop-i.i ≡ some c.source-source.result
+    source_place c.args.sources c.loop-i.i ≡ some c.source-source.result
 unfolding no_source
 standing-there c = rw (c.source-source.ensures, c.if-held.true)
 
@@ -29,13 +29,13 @@ intact-there c = tested _ _ c.source_is_intact.ensures false c.if-source_is_inta
 -- What stands under number i, if anything, is intact and was added.
 added : (c : goal.Joined-held)
     → 
-    let o = source_place c.args.t1 c.loop-i.i in
+    let o = source_place c.args.sources c.loop-i.i in
     (source_intact o ≡ true) × (c.if-held.totals ≡ totals_with c.loop-i.totals o)
 unfolding no_source
 added c =
     ⊎_elim
     (λ w.
-    let s : goal.After-source-source = record { before = record { before = c; if1 = w.0 }; source = w.1 } in
+    let s : goal.After-source-source = record { before = record { before = c.before; if1 = w.0 }; source = w.1 } in
     let k = intact-there (record { before = record { before = s; source-is-intact = w.2 }; if2 = w.3 }) in
     rw (standing-there s) (k, w.5 ∙ w.4.ensures))
     (λ w. rw w.0.left (refl, w.1))
@@ -44,14 +44,14 @@ added c =
 pub loop-i-init : goal.loop-i-init
 unfolding all_intact
 loop-i-init c =
-    let place = source_place c.args.t1 in
+    let place = source_place c.args.sources in
     (zero-le, refl, total-start compares_factor place, total-start compares_loss place, within_none, within_none)
 
 pub returns-then-source_is_intact-eqfalse : goal.returns-then-source_is_intact-eqfalse
 returns-then-source_is_intact-eqfalse c =
-    let place = source_place c.args.t1 in
+    let place = source_place c.args.sources in
     let damaged = tested _ _ c.source_is_intact.ensures true c.if-source_is_intact-eqfalse.true in
-    rw (not-intact source_intact place 32 c.loop-i.i c.loop-i-test.true (ap source_intact (standing-there (goal.at.returns-then-source_is_intact-eqfalse c).After-source-source) ∙ damaged))
+    rw (not-intact source_intact place 32 c.loop-i.i c.loop-i-test.true (ap source_intact (standing-there c.before.before) ∙ damaged))
 
 pub with_source-totals-requires : goal.with_source-totals-requires
 with_source-totals-requires c =
@@ -63,7 +63,7 @@ with_source-totals-requires c =
 
 pub loop-i-preserved : goal.loop-i-preserved
 loop-i-preserved c =
-    let place = source_place c.args.t1 in
+    let place = source_place c.args.sources in
     let i = c.loop-i.i in
     let t = c.loop-i.totals in
     let h = c.loop-i-test.true in
@@ -79,7 +79,7 @@ loop-i-preserved c =
 
 pub returns : goal.returns
 returns c =
-    let place = source_place c.args.t1 in
+    let place = source_place c.args.sources in
     let t = c.loop-i.totals in
     let e : c.loop-i.i ≡ 32 = omega arith in
     let all : all_intact source_intact place 32 ≡ true = rw (← e) c.loop-i.invariant.1 in

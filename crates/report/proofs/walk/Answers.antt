@@ -29,10 +29,10 @@ source c = held_source (get_or c.before.before.args.t4 c.loop.i no_source)
 pub loop-i-init : goal.loop-i-init
 loop-i-init c =
     let a = c.args in
-    rw c.empty-sums.ensures (omega arith, resumed-first (left (table_figure a.grid a.t2 a.totals) (source_place a.t4) 0), none-bounded)
+    rw c.empty-sums.ensures (omega arith, resumed-first (left (table_figure a.grid a.factors a.totals) (source_place a.sources) 0), none-bounded)
 
 -- A source stands there, and it is intact.
-stands : (c : goal.After-source-source) → place c c.loop-i.i ≡ some (source c)
+stands : (c : goal.After-source-source) → place c.before.before.before.before c.loop-i.i ≡ some (source c.before.before.before.before)
 unfolding no_source
 stands c = rw c.if-held.true
 
@@ -40,13 +40,13 @@ unbroken : (c : goal.After-source-source) → source_intact (some c.source-sourc
 unfolding no_source
 unbroken c =
     rw c.source-source.ensures
-    (intact-item source_intact (place c) 32 c.loop-i.i (source c) c.requires.2 c.loop-i-test.true (stands c))
+    (intact-item source_intact (place c.before.before.before.before) 32 c.loop-i.i (source c.before.before.before.before) c.requires.2 c.loop-i-test.true (stands c))
 
 -- Its row and its column are in the table.
 row : (c : goal.After-column_for) → c.row_for.result ≤ 3
 row c =
     let s = c.source-source.result in 
-    rw c.row_for.ensures (row-limit s.supply (source_fits s (unbroken c)).0)
+    rw c.row_for.ensures (row-limit s.supply (source_fits s (unbroken c.before.before.before)).0)
 
 column : (c : goal.After-column_for) → c.column_for.result ≤ 1
 column c = rw c.column_for.ensures (column-limit c.direction.result)
@@ -68,36 +68,34 @@ source_figure-judged-requires c =
     (
       c.requires.0,
       rw c.column_for.ensures (c.requires.1 c.direction.result c.row_for.result),
-      unbroken (goal.at.source_figure-judged-requires c).After-source-source,
+      unbroken c.before.before.before.before,
     )
 
 -- The call gave its figure: the factor that it was handed is the table's of the site that the source names, if it names one.
 judged : (c : goal.After-source_figure-judged)
     → 
-    parts (figure_of c (source c)) ≡ figure_meaning c.source_figure-judged.result
+    parts (figure_of c.before.before.before.before.before.before.before.before.before (source c.before.before.before.before.before.before.before.before.before)) ≡ figure_meaning c.source_figure-judged.result
 unfolding no_source
 judged c =
-    ap (λ (x : Source). parts (figure_of c x)) (sym c.source-source.ensures)
+    ap (λ (x : Source). parts (figure_of c.before.before.before.before.before.before.before.before.before x)) (sym c.source-source.ensures)
     ∙ ap parts (sym (figure-same _ _ _ _ c.source-source.result (λ S e.
     rw (c.row_for.ensures ∙ ap row_for e, c.column_for.ensures, c.direction.ensures))))
     ∙ sym c.source_figure-judged.ensures.figure
 
 pub returns-in_default : goal.returns-in_default
 returns-in_default c =
-    (
-      ap (λ (n : ℕ). Refused n c.loop-i.i) (c.refusal.ensures ∙ ap figure_refusal c.in_default.is)
-          ∙ sym (stops (figure_of (goal.at.returns-in_default c).At-loop-i) (place (goal.at.returns-in_default c).At-loop-i) c.loop-i.sums c.loop-i.i c.loop-i-test.true (source (goal.at.returns-in_default c).At-loop-i) (stands (goal.at.returns-in_default c).After-source-source) _
-          (judged (goal.at.returns-in_default c).After-source_figure-judged ∙ ap figure_meaning c.in_default.is))
-          ∙ c.loop-i.invariant.1,
-      tt,
-    )
+    record { walked = ap (λ (n : ℕ). Refused n c.loop-i.i) (c.refusal.ensures ∙ ap figure_refusal c.in_default.is)
+          ∙ sym (stops (figure_of c.before.before.before.before.before.before.before.before.before.before.before.before) (place c.before.before.before.before.before.before.before.before.before.before.before.before) c.loop-i.sums c.loop-i.i c.loop-i-test.true (source c.before.before.before.before.before.before.before.before.before.before.before.before) (stands c.before.before.before.before.before.before.before.before) _
+          (judged c.before.before.before ∙ ap figure_meaning c.in_default.is))
+          ∙ c.loop-i.invariant.1; bound = tt }
 
 pub plus-sums-requires : goal.plus-sums-requires
 plus-sums-requires c =
-    (
+    let both = (
       bounded-widen c.loop-i.i 31 c.loop-i.sums (omega (arith, c.loop-i-test.true)) c.loop-i.invariant.2,
       subst FigureWithin c.in-Given.is c.source_figure-judged.ensures.bound,
-    )
+    ) in
+    record { None = both.0; None = both.1; None = both.2 }
 
 pub loop-i-preserved : goal.loop-i-preserved
 unfolding no_source
@@ -106,27 +104,24 @@ loop-i-preserved c =
     let h = c.loop-i-test.true in
     ⊎_elim
     (λ w.
-    let s : goal.After-source-source = record { before = record { before = (goal.at.loop-i-preserved c).After-held-1; if1 = w.0 }; source = w.1 } in
+    let s : goal.After-source-source = record { before = record { before = c.before; if1 = w.0 }; source = w.1 } in
     let k : goal.After-column_for =
     record { before = record { before = record { before = s; row-for = w.2 }; direction = w.3 }; column-for = w.4 } in
     let b : goal.After-source_figure-judged = record { before = record { before = k; captive = w.5 }; source-figure = w.6 } in
     let told = w.8.given.1 in
     rw (w.11 ∙ w.10.ensures, w.1.ensures) (
       omega arith,
-      sym (goes_on (figure_of (goal.at.loop-i-preserved c).At-loop-i) (place (goal.at.loop-i-preserved c).At-loop-i) c.loop-i.sums i h (source (goal.at.loop-i-preserved c).At-loop-i) (stands s) _ (judged b ∙ ap figure_meaning told)) ∙ c.loop-i.invariant.1,
-      bounded-more i _ (source (goal.at.loop-i-preserved c).At-loop-i).side c.loop-i.sums (subst FigureWithin told w.6.ensures.1) c.loop-i.invariant.2,
+      sym (goes_on (figure_of c.before.before.before) (place c.before.before.before) c.loop-i.sums i h (source c.before.before.before) (stands s) _ (judged b ∙ ap figure_meaning told)) ∙ c.loop-i.invariant.1,
+      bounded-more i _ (source c.before.before.before).side c.loop-i.sums (subst FigureWithin told w.6.ensures.1) c.loop-i.invariant.2,
     ))
     (λ w.
     rw w.1 (
       omega arith,
-      sym (skips (figure_of (goal.at.loop-i-preserved c).At-loop-i) (place (goal.at.loop-i-preserved c).At-loop-i) c.loop-i.sums i h (rw w.0.left)) ∙ c.loop-i.invariant.1,
+      sym (skips (figure_of c.before.before.before) (place c.before.before.before) c.loop-i.sums i h (rw w.0.left)) ∙ c.loop-i.invariant.1,
       bounded-widen i (i + 1) c.loop-i.sums (omega arith) c.loop-i.invariant.2,
     ))
     c.if-held.branch
 
 pub returns : goal.returns
 returns c =
-    let e : c.loop-i.i ≡ 32 = omega arith in (
-      sym (resumed-last c.loop-i.sums) ∙ ap (resumed c.loop-i.sums) (sym (left-none (figure_of (goal.at.returns c).At-loop-i) (place (goal.at.returns c).At-loop-i))) ∙ (rw e at c.loop-i.invariant.1),
-      rw (← e) c.loop-i.invariant.2,
-    )
+    let e : c.loop-i.i ≡ 32 = omega arith in record { walked = sym (resumed-last c.loop-i.sums) ∙ ap (resumed c.loop-i.sums) (sym (left-none (figure_of c.before) (place c.before))) ∙ (rw e at c.loop-i.invariant.1); bound = rw (← e) c.loop-i.invariant.2 }

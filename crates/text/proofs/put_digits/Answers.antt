@@ -40,7 +40,8 @@ overflow_add-result c = omega arith
 pub returns-then-buffer-at : goal.returns-then-buffer-at
 returns-then-buffer-at c =
     let a = c.args in
-    put-none _ a.at _ (omega (arith, length_digits a.base a.count a.number))
+    let both = put-none _ a.at _ (omega (arith, length_digits a.base a.count a.number)) in
+    record { value = both.0; buffer_after = both.1 }
 
 pub overflow_sub-buffer : goal.overflow_sub-buffer
 overflow_sub-buffer c = omega arith
@@ -51,7 +52,8 @@ overflow_add-result-then-buffer-at-2 c = omega arith
 pub returns-then-buffer-at-2 : goal.returns-then-buffer-at-2
 returns-then-buffer-at-2 c =
     let a = c.args in
-    put-none _ a.at _ (omega (arith, length_digits a.base a.count a.number))
+    let both = put-none _ a.at _ (omega (arith, length_digits a.base a.count a.number)) in
+    record { value = both.0; buffer_after = both.1 }
 
 pub loop-left-init : goal.loop-left-init
 loop-left-init c = (omega arith, omega arith, refl, refl, refl)
@@ -107,6 +109,7 @@ returns c =
     let n = length_digits a.base a.count a.number in
     let z : l.left ≡ 0 = omega arith in
     let e : a.at + 0 ≡ a.at = omega arith in
-    put_whole a.buffer.now a.at _ (omega arith) (omega arith)
+    let both = put_whole a.buffer.now a.at _ (omega arith) (omega arith)
     (sym (take-append-drop a.at l.buffer)
-    ∙ rw (l.invariant.3, n) (ap (λ (t : List ℕ). take a.at a.buffer.now ++ t) (rw (z, e) at l.invariant.2)))
+    ∙ rw (l.invariant.3, n) (ap (λ (t : List ℕ). take a.at a.buffer.now ++ t) (rw (z, e) at l.invariant.2))) in
+    record { value = both.0; buffer_after = both.1 }

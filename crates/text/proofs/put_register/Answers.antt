@@ -4,4 +4,6 @@ use Rattle.text.proofs.put_register.Goals as goal
 
 pub returns : goal.returns
 unfolding register
-returns c = c.put_digits.ensures
+returns c =
+    let both = c.put_digits.ensures in
+    record { value = both.0; buffer_after = both.1 }

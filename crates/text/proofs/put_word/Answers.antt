@@ -13,7 +13,9 @@ pub overflow_add-result : goal.overflow_add-result
 overflow_add-result c = omega arith
 
 pub returns-then-buffer-at : goal.returns-then-buffer-at
-returns-then-buffer-at c = put-none _ c.args.at _ (omega arith)
+returns-then-buffer-at c =
+    let both = put-none _ c.args.at _ (omega arith) in
+    record { value = both.0; buffer_after = both.1 }
 
 pub overflow_sub-buffer : goal.overflow_sub-buffer
 overflow_sub-buffer c = omega arith
@@ -22,7 +24,9 @@ pub overflow_add-result-then-buffer-at-2 : goal.overflow_add-result-then-buffer-
 overflow_add-result-then-buffer-at-2 c = omega arith
 
 pub returns-then-buffer-at-2 : goal.returns-then-buffer-at-2
-returns-then-buffer-at-2 c = put-none _ c.args.at _ (omega arith)
+returns-then-buffer-at-2 c =
+    let both = put-none _ c.args.at _ (omega arith) in
+    record { value = both.0; buffer_after = both.1 }
 
 pub loop-j-init : goal.loop-j-init
 loop-j-init c =
@@ -65,5 +69,6 @@ returns c =
     let l = c.loop-j in
     let j : l.j ≡ length a.word.now = omega arith in
     let e : take l.j a.word.now ≡ a.word.now = take_all l.j a.word.now (omega arith) in
-    put_whole a.buffer.now a.at a.word.now (omega arith) (ap (λ (n : ℕ). a.at + n) j)
-    (l.invariant.1 ∙ rw (e, j) (append_assoc (take a.at a.buffer.now) a.word.now (drop (a.at + length a.word.now) a.buffer.now)))
+    let both = put_whole a.buffer.now a.at a.word.now (omega arith) (ap (λ (n : ℕ). a.at + n) j)
+    (l.invariant.1 ∙ rw (e, j) (append_assoc (take a.at a.buffer.now) a.word.now (drop (a.at + length a.word.now) a.buffer.now))) in
+    record { value = both.0; buffer_after = both.1 }

@@ -13,10 +13,6 @@ use Rattle.text.proofs.Steps.{count-is, value-is, digits-within}
 use Rattle.text.proofs.Decimals.{none-no-decimal, long-no-decimal, zero-no-decimal, one-decimal, plain-decimal, decimal-is, decimal-is-not}
 use Rattle.text.proofs.read_decimal.Goals as goal
 
--- All digits at the place.
-all : (c : goal.After-read_digits-digits) → List ℕ
-all c = leading_digits 10 (drop c.args.at c.args.text.now)
-
 counted : (c : goal.After-read_digits-digits) → c.read_digits-digits.result.count ≡ min 19 (length (all c))
 unfolding all
 counted c = let a = c.args in count-is a.text.now a.at 10 19 c.read_digits-digits.ensures
@@ -34,34 +30,38 @@ first c h =
 pub returns-then-count-eq0 : goal.returns-then-count-eq0
 unfolding all
 returns-then-count-eq0 c =
-    decimal-is-not _ _ (none-no-decimal (all (goal.at.returns-then-count-eq0 c).After-read_digits-digits) (omega (arith, counted (goal.at.returns-then-count-eq0 c).After-read_digits-digits)))
+    let all : List ℕ = leading_digits 10 (drop c.args.at c.args.text.now) in
+    decimal-is-not _ _ (none-no-decimal all (omega (arith, counted c.before)))
 
 pub returns-then-count-gt-DIGITS_LIMIT : goal.returns-then-count-gt-DIGITS_LIMIT
 unfolding all
 returns-then-count-gt-DIGITS_LIMIT c =
-    decimal-is-not _ _ (long-no-decimal (all (goal.at.returns-then-count-gt-DIGITS_LIMIT c).After-read_digits-digits) (omega (arith, counted (goal.at.returns-then-count-gt-DIGITS_LIMIT c).After-read_digits-digits)))
+    let all : List ℕ = leading_digits 10 (drop c.args.at c.args.text.now) in
+    decimal-is-not _ _ (long-no-decimal all (omega (arith, counted c.before.before)))
 
 pub bounds-text-at : goal.bounds-text-at
-bounds-text-at c = omega (arith, counted (goal.at.bounds-text-at c).After-read_digits-digits, within (goal.at.bounds-text-at c).After-read_digits-digits)
+bounds-text-at c = omega (arith, counted c.before.before.before, within c.before.before.before)
 
 pub returns-then-count-gt1 : goal.returns-then-count-gt1
 unfolding all
 returns-then-count-gt1 c =
+    let all : List ℕ = leading_digits 10 (drop c.args.at c.args.text.now) in
     decimal-is-not _ _
-    (zero-no-decimal (all (goal.at.returns-then-count-gt1 c).After-read_digits-digits) (omega (arith, counted (goal.at.returns-then-count-gt1 c).After-read_digits-digits)) (omega (arith, counted (goal.at.returns-then-count-gt1 c).After-read_digits-digits)) (first (goal.at.returns-then-count-gt1 c).After-read_digits-digits (omega (arith, counted (goal.at.returns-then-count-gt1 c).After-read_digits-digits)) ∙ c.if-text-at-eq48.true))
+    (zero-no-decimal all (omega (arith, counted c.before.before.before.before.before)) (omega (arith, counted c.before.before.before.before.before)) (first c.before.before.before.before.before (omega (arith, counted c.before.before.before.before.before)) ∙ c.if-text-at-eq48.true))
 
 pub overflow_add-result : goal.overflow_add-result
-overflow_add-result c = record { fits = omega (arith, counted (goal.at.overflow_add-result c).After-read_digits-digits, within (goal.at.overflow_add-result c).After-read_digits-digits) }
+overflow_add-result c = record { fits = omega (arith, counted c.before.before.before.before, within c.before.before.before.before) }
 
 pub returns : goal.returns
 unfolding all
 returns c =
-    let n = counted (goal.at.returns c).After-read_digits-digits in
-    let e : take 19 (all (goal.at.returns c).After-read_digits-digits) ≡ all r = take_all 19 (all (goal.at.returns c).After-read_digits-digits) (omega arith) in
+    let all : List ℕ = leading_digits 10 (drop c.args.at c.args.text.now) in
+    let n = counted c.before.before.before.before in
+    let e : take 19 all ≡ all = take_all 19 all (omega arith) in
     decimal-is _ _ _ _
     (⊎_elim
-    (λ w. one-decimal (all (goal.at.returns c).After-read_digits-digits) (omega arith))
-    (λ w. plain-decimal (all (goal.at.returns c).After-read_digits-digits) (omega arith) (omega arith) (λ z. w.left (sym (first (goal.at.returns c).After-read_digits-digits (omega arith)) ∙ z)))
+    (λ w. one-decimal all (omega arith))
+    (λ w. plain-decimal all (omega arith) (omega arith) (λ z. w.left (sym (first c.before.before.before.before (omega arith)) ∙ z)))
     c.if-text-at-eq48.branch)
     (value-is c.args.text.now c.args.at 10 19 c.read_digits-digits.ensures ∙ ap (value 10) e)
     (omega arith)

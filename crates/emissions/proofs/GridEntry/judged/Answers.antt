@@ -26,20 +26,20 @@ full c = tested _ _ c.has_full_weights.ensures false c.if-has_full_weights-eqfal
 both-within : (c : goal.Else-has_full_weights-eqfalse) → let m = c.args.self.margin in 
     (rounded_combined Up m ≤ factor_limit) × (rounded_combined Down m ≤ factor_limit)
 both-within c =
-    let h = within c in
+    let h = within c.before.before in
     let k = full c in
     (rounded-limit Up _ h k, rounded-limit Down _ h k)
 
 pub returns-then-has_full_weights-eqfalse : goal.returns-then-has_full_weights-eqfalse
 unfolding grid_judged
-returns-then-has_full_weights-eqfalse c = rw (within (goal.at.returns-then-has_full_weights-eqfalse c).Else-is_within_limits-eqfalse, tested _ _ c.has_full_weights.ensures true c.if-has_full_weights-eqfalse.true)
+returns-then-has_full_weights-eqfalse c = rw (within c.before.before, tested _ _ c.has_full_weights.ensures true c.if-has_full_weights-eqfalse.true)
 
 pub overflow_cast-result : goal.overflow_cast-result
-overflow_cast-result c = omega (arith, c.rounded.ensures, both-within (goal.at.overflow_cast-result c).Else-has_full_weights-eqfalse)
+overflow_cast-result c = omega (arith, c.rounded.ensures, both-within c.before)
 
 pub overflow_cast-result-2 : goal.overflow_cast-result-2
-overflow_cast-result-2 c = omega (arith, c.rounded-2.ensures, both-within (goal.at.overflow_cast-result-2 c).Else-has_full_weights-eqfalse)
+overflow_cast-result-2 c = omega (arith, c.rounded-2.ensures, both-within c.before.before)
 
 pub returns : goal.returns
 unfolding grid_judged
-returns c = rw (within (goal.at.returns c).Else-is_within_limits-eqfalse, full (goal.at.returns c).Else-has_full_weights-eqfalse, c.rounded.ensures, c.rounded-2.ensures)
+returns c = rw (within c.before.before.before.before, full c.before.before, c.rounded.ensures, c.rounded-2.ensures)

@@ -19,9 +19,10 @@ pub returns-in_default : goal.returns-in_default
 returns-in_default c =
     let s = c.args.line.now in
     let l = c.loop-turn in
-    left-none reading.fuels fitted_line no_line _ l.fuels.count l.fuels.lines _ _
+    let both = left-none reading.fuels fitted_line no_line _ l.fuels.count l.fuels.lines _ _
     (sym (ap (fuel_meaning s) c.in_default.is) ∙ c.read_fuel.ensures)
-    l.invariant.2
+    l.invariant.2 in
+    record { lines = both.0; count = both.1; rest = both.2 }
 
 pub with_fuel-fuels-requires : goal.with_fuel-fuels-requires
 with_fuel-fuels-requires c = omega arith
@@ -45,4 +46,5 @@ loop-turn-preserved c =
 pub returns : goal.returns
 returns c =
     let l = c.loop-turn in
-    left_end reading.fuels fitted_line no_line _ l.fuels.count l.fuels.lines _ _ (omega arith) l.invariant.2
+    let both = left_end reading.fuels fitted_line no_line _ l.fuels.count l.fuels.lines _ _ (omega arith) l.invariant.2 in
+    record { lines = both.0; count = both.1; rest = both.2 }

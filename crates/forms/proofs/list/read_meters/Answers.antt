@@ -37,12 +37,14 @@ loop-count-preserved c =
 pub returns-after-loop-count : goal.returns-after-loop-count
 returns-after-loop-count c =
     let l = c.loop-count in
-    left_end reading.meters fitted_meter_of no_meter _ l.count l.meters _ _ (omega arith) l.invariant.1
+    let both = left_end reading.meters fitted_meter_of no_meter _ l.count l.meters _ _ (omega arith) l.invariant.1 in
+    record { meters = both.0; count = both.1; rest = both.2 }
 
 pub returns-in_default : goal.returns-in_default
 returns-in_default c =
     let s = c.args.line.now in
     let l = c.loop-count in
-    left-none reading.meters fitted_meter_of no_meter _ l.count l.meters _ _
+    let both = left-none reading.meters fitted_meter_of no_meter _ l.count l.meters _ _
     (sym (ap (meter_meaning s) c.in_default.is) ∙ c.read_meter.ensures)
-    l.invariant.1
+    l.invariant.1 in
+    record { meters = both.0; count = both.1; rest = both.2 }

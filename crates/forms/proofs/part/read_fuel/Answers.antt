@@ -22,7 +22,7 @@ returns-in-Match c =
     (row_read _ _ _ _ _ c.read_template.ensures _ _
     c.in-Match.is)))
 
-left-1 : (p : goal.In_default) → Left fuels 1 (text p)
+left-1 : (p : goal.In_default) → Left fuels 1 (text p.before.before.before.before.before)
 unfolding fuels
 left-1 p = row-passed _ _ _ _ _ p.read_template.ensures p.in_default.is
 
@@ -32,13 +32,13 @@ returns-in-Match-read_template c =
     rw (c.word_field-quantity-in-Match-read_template.ensures, c.word_field-carbon.ensures)
     (sym
     (ap (map_read fitted_line)
-    (left-1 (goal.at.returns-in-Match-read_template c).After-read_template-arg-3-1
+    (left-1 c.before.before.before.before.before.before.before
     ∙ row_read _ _ _ _ _ c.read_template-2.ensures _ _
     c.in-Match-read_template.is)))
 
-left-2 : (p : goal.In_default-read_template) → Left fuels 2 (text p)
+left-2 : (p : goal.In_default-read_template) → Left fuels 2 (text p.before.before.before.before.before.before.before.before.before)
 unfolding fuels
-left-2 p = left-1 p ∙ row-passed _ _ _ _ _ p.read_template-2.ensures p.in_default-read_template.is
+left-2 p = left-1 p.before.before.before.before ∙ row-passed _ _ _ _ _ p.read_template-2.ensures p.in_default-read_template.is
 
 pub returns-in-Match-read_template-2 : goal.returns-in-Match-read_template-2
 unfolding fuels
@@ -46,7 +46,7 @@ returns-in-Match-read_template-2 c =
     rw (c.word_field-quantity-in-Match-read_template-2.ensures, c.word_field-density.ensures, c.word_field-carbon-in-Match-read_template-2.ensures)
     (sym
     (ap (map_read fitted_line)
-    (left-2 (goal.at.returns-in-Match-read_template-2 c).After-read_template-arg-5-1
+    (left-2 c.before.before.before.before.before.before.before.before
     ∙ row_read _ _ _ _ _ c.read_template-3.ensures _ _
     c.in-Match-read_template-2.is)))
 
@@ -55,6 +55,6 @@ unfolding fuels
 returns c =
     sym
     (ap (map_read fitted_line)
-    (left-2 (goal.at.returns c).After-read_template-arg-5-1
+    (left-2 c.before.before.before.before
     ∙ row-passed _ _ _ _ _ c.read_template-3.ensures c.in_default-read_template-2.is
     ∙ no_row _))

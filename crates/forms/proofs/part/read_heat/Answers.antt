@@ -13,17 +13,17 @@ abbrev text : goal.Start → List ℕ
 text p = drop p.args.at p.args.line.now
 
 heat-there : (p : goal.In-Match-2) → let s = p.args.line.now in 
-    optional_of heats (text p) ≡ record { value = some p.in-Match.numbers.first; rest = drop p.in-Match.next s }
+    optional_of heats (text p.before.before.before.before.before) ≡ record { value = some p.in-Match.numbers.first; rest = drop p.in-Match.next s }
 unfolding heats
 heat-there p = ap (or_left_out _) (row_read _ _ _ _ _ p.read_template.ensures _ _ p.in-Match.is)
 
 pub returns-in-Match : goal.returns-in-Match
-returns-in-Match c = let e = heat-there (goal.at.returns-in-Match c).In-Match-2 in (rw e, rw e)
+returns-in-Match c = let e = heat-there c.before in record { heat = rw e; rest = rw e }
 
-heat-left-out : (p : goal.In_default) → let t = text p in
+heat-left-out : (p : goal.In_default) → let t = text p.before.before.before.before.before in
     optional_of heats t ≡ record { value = none; rest = t }
 unfolding heats
 heat-left-out p = ap (or_left_out _) (row-passed _ _ _ _ _ p.read_template.ensures p.in_default.is ∙ no_row _)
 
 pub returns : goal.returns
-returns c = let e = heat-left-out c in (rw e, rw e)
+returns c = let e = heat-left-out c in record { heat = rw e; rest = rw e }

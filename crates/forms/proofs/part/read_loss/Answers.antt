@@ -21,7 +21,7 @@ returns-in-Match c =
     (ap (map_read fitted_loss)
     (row_read _ _ _ _ _ c.read_template.ensures _ _ c.in-Match.is)))
 
-left-1 : (p : goal.In_default) → Left losses 1 (text p)
+left-1 : (p : goal.In_default) → Left losses 1 (text p.before.before.before.before.before)
 unfolding losses
 left-1 p = row-passed _ _ _ _ _ p.read_template.ensures p.in_default.is
 
@@ -30,33 +30,33 @@ unfolding losses
 returns-in-Match-read_template c =
     sym
     (ap (map_read fitted_loss)
-    (left-1 (goal.at.returns-in-Match-read_template c).After-read_template-arg-3-1
+    (left-1 c.before.before.before.before.before
     ∙ row_read _ _ _ _ _ c.read_template-2.ensures _ _ c.in-Match-read_template.is))
 
-left-2 : (p : goal.In_default-read_template) → Left losses 2 (text p)
+left-2 : (p : goal.In_default-read_template) → Left losses 2 (text p.before.before.before.before.before.before.before.before.before)
 unfolding losses
-left-2 p = left-1 p ∙ row-passed _ _ _ _ _ p.read_template-2.ensures p.in_default-read_template.is
+left-2 p = left-1 p.before.before.before.before ∙ row-passed _ _ _ _ _ p.read_template-2.ensures p.in_default-read_template.is
 
 pub returns-in-Match-read_template-2 : goal.returns-in-Match-read_template-2
 unfolding losses
 returns-in-Match-read_template-2 c =
     sym
     (ap (map_read fitted_loss)
-    (left-2 (goal.at.returns-in-Match-read_template-2 c).After-read_template-arg-5-1
+    (left-2 c.before.before.before.before.before
     ∙ row_read _ _ _ _ _ c.read_template-3.ensures _ _ c.in-Match-read_template-2.is))
 
 left-3 : (p : goal.In_default-read_template-2)
     → Left losses 3
-    (text p)
+    (text p.before.before.before.before.before.before.before.before.before.before.before.before.before)
 unfolding losses
-left-3 p = left-2 p ∙ row-passed _ _ _ _ _ p.read_template-3.ensures p.in_default-read_template-2.is
+left-3 p = left-2 p.before.before.before.before ∙ row-passed _ _ _ _ _ p.read_template-3.ensures p.in_default-read_template-2.is
 
 pub returns-in-Match-read_template-3 : goal.returns-in-Match-read_template-3
 unfolding losses
 returns-in-Match-read_template-3 c =
     sym
     (ap (map_read fitted_loss)
-    (left-3 (goal.at.returns-in-Match-read_template-3 c).After-read_template-arg-7-1
+    (left-3 c.before.before.before.before.before
     ∙ row_read _ _ _ _ _ c.read_template-4.ensures _ _ c.in-Match-read_template-3.is))
 
 pub returns : goal.returns
@@ -64,6 +64,6 @@ unfolding losses
 returns c =
     sym
     (ap (map_read fitted_loss)
-    (left-3 (goal.at.returns c).After-read_template-arg-7-1
+    (left-3 c.before.before.before.before
     ∙ row-passed _ _ _ _ _ c.read_template-4.ensures c.in_default-read_template-3.is
     ∙ no_row _))

@@ -23,7 +23,7 @@ returns-in-Match c =
     (ap (map_read fitted_meter_of)
     (row_read _ _ _ _ _ c.read_template.ensures _ _ c.in-Match.is)))
 
-left-1 : (p : goal.In_default) → Left plain_meters 1 (text p)
+left-1 : (p : goal.In_default) → Left plain_meters 1 (text p.before.before.before.before.before)
 unfolding plain_meters
 left-1 p = row-passed _ _ _ _ _ p.read_template.ensures p.in_default.is
 
@@ -33,12 +33,12 @@ returns-in-Match-read_template c =
     rw c.whole_meter-meter-in-Match-read_template.ensures
     (sym
     (ap (map_read fitted_meter_of)
-    (left-1 (goal.at.returns-in-Match-read_template c).After-read_template-arg-3-1
+    (left-1 c.before.before.before.before.before.before
     ∙ row_read _ _ _ _ _ c.read_template-2.ensures _ _ c.in-Match-read_template.is)))
 
-left-2 : (p : goal.In_default-read_template) → Left plain_meters 2 (text p)
+left-2 : (p : goal.In_default-read_template) → Left plain_meters 2 (text p.before.before.before.before.before.before.before.before.before)
 unfolding plain_meters
-left-2 p = left-1 p ∙ row-passed _ _ _ _ _ p.read_template-2.ensures p.in_default-read_template.is
+left-2 p = left-1 p.before.before.before.before ∙ row-passed _ _ _ _ _ p.read_template-2.ensures p.in_default-read_template.is
 
 pub returns-in-Match-read_template-2 : goal.returns-in-Match-read_template-2
 unfolding plain_meters places_of
@@ -48,14 +48,14 @@ returns-in-Match-read_template-2 c =
     rw (c.single_meter-meter.ensures, f.0, f.1)
     (sym
     (ap (map_read fitted_meter_of)
-    (left-2 (goal.at.returns-in-Match-read_template-2 c).After-read_template-arg-5-1
+    (left-2 c.before.before.before.before.before.before
     ∙ row_read _ _ _ _ _ c.read_template-3.ensures _ _ c.in-Match-read_template-2.is)))
 
 left-3 : (p : goal.In_default-read_template-2)
     → Left plain_meters 3
-    (text p)
+    (text p.before.before.before.before.before.before.before.before.before.before.before.before.before)
 unfolding plain_meters
-left-3 p = left-2 p ∙ row-passed _ _ _ _ _ p.read_template-3.ensures p.in_default-read_template-2.is
+left-3 p = left-2 p.before.before.before.before ∙ row-passed _ _ _ _ _ p.read_template-3.ensures p.in_default-read_template-2.is
 
 pub returns-in-Match-read_template-3 : goal.returns-in-Match-read_template-3
 unfolding plain_meters places_of
@@ -65,7 +65,7 @@ returns-in-Match-read_template-3 c =
     rw (c.single_meter-meter-in-Match-read_template-3.ensures, f.0, f.1)
     (sym
     (ap (map_read fitted_meter_of)
-    (left-3 (goal.at.returns-in-Match-read_template-3 c).After-read_template-arg-7-1
+    (left-3 c.before.before.before.before.before.before
     ∙ row_read _ _ _ _ _ c.read_template-4.ensures _ _ c.in-Match-read_template-3.is)))
 
 pub returns : goal.returns
@@ -73,6 +73,6 @@ unfolding plain_meters
 returns c =
     sym
     (ap (map_read fitted_meter_of)
-    (left-3 (goal.at.returns c).After-read_template-arg-7-1
+    (left-3 c.before.before.before.before
     ∙ row-passed _ _ _ _ _ c.read_template-4.ensures c.in_default-read_template-3.is
     ∙ no_row _))

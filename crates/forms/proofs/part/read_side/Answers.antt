@@ -15,7 +15,7 @@ pub returns-in-Match : goal.returns-in-Match
 unfolding sides
 returns-in-Match c = sym (row_read _ _ _ _ _ c.read_template.ensures _ _ c.in-Match.is)
 
-left-1 : (p : goal.In_default) → Left sides 1 (text p)
+left-1 : (p : goal.In_default) → Left sides 1 (text p.before.before.before.before.before)
 unfolding sides
 left-1 p = row-passed _ _ _ _ _ p.read_template.ensures p.in_default.is
 
@@ -23,24 +23,24 @@ pub returns-in-Match-read_template : goal.returns-in-Match-read_template
 unfolding sides
 returns-in-Match-read_template c =
     sym
-    (left-1 (goal.at.returns-in-Match-read_template c).After-read_template-arg-3-1
+    (left-1 c.before.before.before.before.before
     ∙ row_read _ _ _ _ _ c.read_template-2.ensures _ _ c.in-Match-read_template.is)
 
-left-2 : (p : goal.In_default-read_template) → Left sides 2 (text p)
+left-2 : (p : goal.In_default-read_template) → Left sides 2 (text p.before.before.before.before.before.before.before.before.before)
 unfolding sides
-left-2 p = left-1 p ∙ row-passed _ _ _ _ _ p.read_template-2.ensures p.in_default-read_template.is
+left-2 p = left-1 p.before.before.before.before ∙ row-passed _ _ _ _ _ p.read_template-2.ensures p.in_default-read_template.is
 
 pub returns-in-Match-read_template-2 : goal.returns-in-Match-read_template-2
 unfolding sides
 returns-in-Match-read_template-2 c =
     sym
-    (left-2 (goal.at.returns-in-Match-read_template-2 c).After-read_template-arg-5-1
+    (left-2 c.before.before.before.before.before
     ∙ row_read _ _ _ _ _ c.read_template-3.ensures _ _ c.in-Match-read_template-2.is)
 
 pub returns : goal.returns
 unfolding sides
 returns c =
     sym
-    (left-2 (goal.at.returns c).After-read_template-arg-5-1
+    (left-2 c.before.before.before.before
     ∙ row-passed _ _ _ _ _ c.read_template-3.ensures c.in_default-read_template-2.is
     ∙ no_row _)

@@ -17,7 +17,7 @@ pub returns-in-Match : goal.returns-in-Match
 unfolding supplies
 returns-in-Match c = sym (ap (map_read fitted_supply) (row_read _ _ _ _ _ c.read_template.ensures _ _ c.in-Match.is))
 
-left-1 : (p : goal.In_default) → Left supplies 1 (text p)
+left-1 : (p : goal.In_default) → Left supplies 1 (text p.before.before.before.before.before)
 unfolding supplies
 left-1 p = row-passed _ _ _ _ _ p.read_template.ensures p.in_default.is
 
@@ -26,12 +26,12 @@ unfolding supplies
 returns-in-Match-read_template c =
     sym
     (ap (map_read fitted_supply)
-    (left-1 (goal.at.returns-in-Match-read_template c).After-read_template-arg-3-1
+    (left-1 c.before.before.before.before.before
     ∙ row_read _ _ _ _ _ c.read_template-2.ensures _ _ c.in-Match-read_template.is))
 
-left-2 : (p : goal.In_default-read_template) → Left supplies 2 (text p)
+left-2 : (p : goal.In_default-read_template) → Left supplies 2 (text p.before.before.before.before.before.before.before.before.before)
 unfolding supplies
-left-2 p = left-1 p ∙ row-passed _ _ _ _ _ p.read_template-2.ensures p.in_default-read_template.is
+left-2 p = left-1 p.before.before.before.before ∙ row-passed _ _ _ _ _ p.read_template-2.ensures p.in_default-read_template.is
 
 pub returns-in-Match-read_template-2 : goal.returns-in-Match-read_template-2
 unfolding supplies
@@ -39,28 +39,28 @@ returns-in-Match-read_template-2 c =
     rw c.byte_field.ensures
     (sym
     (ap (map_read fitted_supply)
-    (left-2 (goal.at.returns-in-Match-read_template-2 c).After-read_template-arg-5-1
+    (left-2 c.before.before.before.before.before.before
     ∙ row_read _ _ _ _ _ c.read_template-3.ensures _ _ c.in-Match-read_template-2.is)))
 
 left-3 : (p : goal.In_default-read_template-2)
     → Left supplies 3
-    (text p)
+    (text p.before.before.before.before.before.before.before.before.before.before.before.before.before)
 unfolding supplies
-left-3 p = left-2 p ∙ row-passed _ _ _ _ _ p.read_template-3.ensures p.in_default-read_template-2.is
+left-3 p = left-2 p.before.before.before.before ∙ row-passed _ _ _ _ _ p.read_template-3.ensures p.in_default-read_template-2.is
 
 pub returns-in-Match-read_template-3 : goal.returns-in-Match-read_template-3
 unfolding supplies
 returns-in-Match-read_template-3 c =
     sym
     (ap (map_read fitted_supply)
-    (left-3 (goal.at.returns-in-Match-read_template-3 c).After-read_template-arg-7-1
+    (left-3 c.before.before.before.before.before
     ∙ row_read _ _ _ _ _ c.read_template-4.ensures _ _ c.in-Match-read_template-3.is))
 
 left-4 : (p : goal.In_default-read_template-3)
     → Left supplies 4
-    (text p)
+    (text p.before.before.before.before.before.before.before.before.before.before.before.before.before.before.before.before.before)
 unfolding supplies
-left-4 p = left-3 p ∙ row-passed _ _ _ _ _ p.read_template-4.ensures p.in_default-read_template-3.is
+left-4 p = left-3 p.before.before.before.before ∙ row-passed _ _ _ _ _ p.read_template-4.ensures p.in_default-read_template-3.is
 
 pub returns-in-Match-read_template-4 : goal.returns-in-Match-read_template-4
 unfolding supplies
@@ -68,7 +68,7 @@ returns-in-Match-read_template-4 c =
     rw c.byte_field-in-Match-read_template-4.ensures
     (sym
     (ap (map_read fitted_supply)
-    (left-4 (goal.at.returns-in-Match-read_template-4 c).After-read_template-arg-9-1
+    (left-4 c.before.before.before.before.before.before
     ∙ row_read _ _ _ _ _ c.read_template-5.ensures _ _ c.in-Match-read_template-4.is)))
 
 pub returns : goal.returns
@@ -76,6 +76,6 @@ unfolding supplies
 returns c =
     sym
     (ap (map_read fitted_supply)
-    (left-4 (goal.at.returns c).After-read_template-arg-9-1
+    (left-4 c.before.before.before.before
     ∙ row-passed _ _ _ _ _ c.read_template-5.ensures c.in_default-read_template-4.is
     ∙ no_row _))

@@ -30,10 +30,10 @@ returns-then-is_within_limits c =
     let l = c.args.self in
     let h = sym c.is_within_limits.ensures ∙ c.if-is_within_limits.true in
     let e = c.unrounded-exact.ensures in
-    (rounded Up l h e c.divide-up.ensures, rounded Down l h e c.divide-down.ensures)
+    record { up = rounded Up l h e c.divide-up.ensures; down = rounded Down l h e c.divide-down.ensures }
 
 pub returns : goal.returns
 returns c =
     let l = c.args.self in
     let h = sym c.is_within_limits.ensures ∙ c.if-is_within_limits.false in
-    (beyond Up l h, beyond Down l h)
+    record { up = beyond Up l h; down = beyond Down l h }

@@ -9,4 +9,4 @@ pub returns : goal.returns
 unfolding no_plant
 returns c =
     let a = c.args in
-    (rw c.dropped-done.ensures.kept (sym (drop-plant-stores a.t1 a.number _ refl)), ap answer_meaning c.dropped-done.ensures.answer ∙ sym (drop-plant-answers a.t1 a.number _ refl))
+    record { ledger = rw c.dropped-done.ensures.kept (sym (drop-plant-stores a.self a.number _ refl)); answer = ap answer_meaning c.dropped-done.ensures.answer ∙ sym (drop-plant-answers a.self a.number _ refl) }

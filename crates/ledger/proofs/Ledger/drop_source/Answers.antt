@@ -9,4 +9,4 @@ pub returns : goal.returns
 unfolding no_source
 returns c =
     let a = c.args in
-    (rw c.dropped-done.ensures.kept (sym (drop-source-stores a.t1 a.number _ refl)), ap answer_meaning c.dropped-done.ensures.answer ∙ sym (drop-source-answers a.t1 a.number _ refl))
+    record { ledger = rw c.dropped-done.ensures.kept (sym (drop-source-stores a.self a.number _ refl)); answer = ap answer_meaning c.dropped-done.ensures.answer ∙ sym (drop-source-answers a.self a.number _ refl) }

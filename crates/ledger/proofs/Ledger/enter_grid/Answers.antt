@@ -7,4 +7,4 @@ use Rattle.ledger.proofs.Ledger.enter_grid.Goals as goal
 pub returns : goal.returns
 returns c =
     let a = c.args in
-    (rw c.entered-done.ensures.kept (sym (enter-grid-stores a.self a.entry)), ap answer_meaning c.entered-done.ensures.answer ∙ sym (enter-grid-answers a.self a.entry))
+    record { ledger = rw c.entered-done.ensures.kept (sym (enter-grid-stores a.self a.entry)); answer = ap answer_meaning c.entered-done.ensures.answer ∙ sym (enter-grid-answers a.self a.entry) }

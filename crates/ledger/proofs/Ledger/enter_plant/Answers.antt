@@ -7,4 +7,4 @@ use Rattle.ledger.proofs.Ledger.enter_plant.Goals as goal
 pub returns : goal.returns
 returns c =
     let a = c.args in
-    (rw c.entered-done.ensures.kept (sym (enter-plant-stores a.t1 a.number _ _)), ap answer_meaning c.entered-done.ensures.answer ∙ sym (enter-plant-answers a.t1 a.number a.plant))
+    record { ledger = rw c.entered-done.ensures.kept (sym (enter-plant-stores a.self a.number _ _)); answer = ap answer_meaning c.entered-done.ensures.answer ∙ sym (enter-plant-answers a.self a.number a.plant) }

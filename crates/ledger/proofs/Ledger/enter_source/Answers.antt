@@ -7,4 +7,4 @@ use Rattle.ledger.proofs.Ledger.enter_source.Goals as goal
 pub returns : goal.returns
 returns c =
     let a = c.args in
-    (rw c.entered-done.ensures.kept (sym (enter-source-stores a.t1 a.number _ _)), ap answer_meaning c.entered-done.ensures.answer ∙ sym (enter-source-answers a.t1 a.number a.entry))
+    record { ledger = rw c.entered-done.ensures.kept (sym (enter-source-stores a.self a.number _ _)); answer = ap answer_meaning c.entered-done.ensures.answer ∙ sym (enter-source-answers a.self a.number a.entry) }

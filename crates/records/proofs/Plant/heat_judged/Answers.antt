@@ -5,10 +5,10 @@ use borrow.Author.Tests.{le-leb, lt-leb, lt-ltb, le-ltb}
 use mathlib.Core.Path.{◌≡◌, refl, sym, ap, ◌∙◌}
 use mathlib.Core.Bool.{Bool, true, false, ◌&&◌}
 use mathlib.Core.Option.{some}
-use Prim.Native.Nat.{◌+◌, ◌-◌, ◌≤◌, ◌<◌, zero-le}
-use native.Mathlib.Nat.{le_of_eq, le_trans, pos_of_ne-zero}
+use Prim.Native.Nat.{◌+◌, ◌-◌, ◌<◌, zero-le}
+use native.Mathlib.Nat.{le_of_eq, pos_of_ne-zero}
 use native.Mathlib.Omega.{arith}
-use lib.ListN.{length, get_or, take, drop, length-map}
+use lib.ListN.{get_or, take, drop}
 use Rattle.fuel.specs.Fuel.{no_line, is_energy, line_energy, states_energy, stated_energy, energy_meaning, all_lines}
 use Rattle.fuel.specs.declared.FuelLine.{FuelLine}
 use Rattle.fuel.proofs.Fuel.{line-energy-bound, energy-stated, energy-not-stated}
@@ -23,68 +23,63 @@ use Rattle.records.proofs.Plant.heat_judged.Goals as goal
 abbrev plant : goal.Else-self-gt-LINES_LIMIT → Plant
 plant c = c.before.before.before.before.args.self
 
-above : (c : goal.Else-self-eq0) → 0 < c.args.self.heat
-above c = pos_of_ne-zero c.if-self-eq0.false
-
-room : (c : goal.Else-self-gt-LINES_LIMIT) → (plant c).count ≤ length (plant c).lines
-room c =
-    let four = simp length-map at c.well_formed.0.1.1.1.1.1.1.0.1.0.1 in
-    le_trans c.if-self-gt-LINES_LIMIT.false (le_of_eq (sym four))
-
 -- The line in its turn, and what follows where it is found to state its energy or not.
 abbrev line : goal.In-loop-i → FuelLine
 line c = get_or (plant c.before.before.before.before).lines c.before.loop.i no_line
 
 turn : (c : goal.In-loop-i) (t : Bool) → states_energy (line c) ≡ t
-    → let p = plant c in
+    → let p = plant c.before.before.before.before in
     (t && all_lines states_energy (drop (c.loop-i.i + 1) (take p.count p.lines))) ≡ all_lines states_energy (take p.count p.lines)
 turn c t e =
-    sym (next-line states_energy (plant c).lines (plant c).count c.loop-i.i no_line t c.loop-i-test.true (room c) e) ∙ c.loop-i.invariant.2
+    sym (next-line states_energy (plant c.before.before.before.before).lines (plant c.before.before.before.before).count c.loop-i.i no_line t c.loop-i-test.true (room c.before.before.before.before) e) ∙ c.loop-i.invariant.2
 
 -- What it stated, and what is summed up after it.
-stated : (c : goal.In-Stated) → stated_energy (line c) ≡ some c.in-Stated.energy
+stated : (c : goal.In-Stated) → stated_energy (line c.before.before.before.before.before) ≡ some c.in-Stated.energy
 stated c = sym c.energy.ensures ∙ ap energy_meaning c.in-Stated.is
 
 summed-on : (c : goal.In-Stated)
     → 
-    let p = plant c in
+    let p = plant c.before.before.before.before.before.before.before.before.before in
     SumBefore line_energy 15000000000000 p.lines p.count (c.loop-i.i + 1) (c.loop-i.total + c.in-Stated.energy)
 summed-on c =
-    let g = energy-stated (line c) _ (stated c) in
-    let fits = (and_both (is_energy (line c)) _ g.0).1 in
-    sum-turn line_energy 15000000000000 (plant c).lines (plant c).count c.loop-i.i _ (room c) c.loop-i.invariant.1 no_line _
-    c.loop-i-test.true g.1 (omega (arith, g.1, line-energy-bound (line c) fits))
+    let g = energy-stated (line c.before.before.before.before.before) _ (stated c) in
+    let fits = (and_both (is_energy (line c.before.before.before.before.before)) _ g.0).1 in
+    sum-turn line_energy 15000000000000 (plant c.before.before.before.before.before.before.before.before.before).lines (plant c.before.before.before.before.before.before.before.before.before).count c.loop-i.i _ (room c.before.before.before.before.before.before.before.before.before) c.loop-i.invariant.1 no_line _
+    c.loop-i-test.true g.1 (omega (arith, g.1, line-energy-bound (line c.before.before.before.before.before) fits))
 
 -- All lines stated their energy, and this is what they come to.
 all-stated : (c : goal.After-loop-i)
-    → let p = plant c in
+    → let p = plant c.before.before.before.before in
     (all_lines states_energy (take p.count p.lines) ≡ true) × (c.loop-i.total ≡ fuel_energy (take p.count p.lines))
 unfolding fuel_energy
 all-stated c =
-    let p = plant c in
+    let p = plant c.before.before.before.before in
     let h = c.loop-i-test.false in (
-      sym c.loop-i.invariant.2 ∙ no_line_lem states_energy p.lines p.count c.loop-i.i h (room c),
-      sum-end line_energy 15000000000000 p.lines p.count c.loop-i.i _ (room c) c.loop-i.invariant.1 h,
+      sym c.loop-i.invariant.2 ∙ no_line_lem states_energy p.lines p.count c.loop-i.i h (room c.before.before.before.before),
+      sum-end line_energy 15000000000000 p.lines p.count c.loop-i.i _ (room c.before.before.before.before) c.loop-i.invariant.1 h,
     )
 
 pub returns-then-self-eq0 : goal.returns-then-self-eq0
 returns-then-self-eq0 c = rw (le-ltb 0 c.args.self.heat (le_of_eq c.if-self-eq0.true))
 
 pub returns-then-self-gt-LINES_LIMIT : goal.returns-then-self-gt-LINES_LIMIT
-returns-then-self-gt-LINES_LIMIT c = rw (lt-ltb 0 _ (above (goal.at.returns-then-self-gt-LINES_LIMIT c).Else-self-eq0), lt-leb _ _ c.if-self-gt-LINES_LIMIT.true)
+returns-then-self-gt-LINES_LIMIT c =
+    let above : 0 < c.args.self.heat = pos_of_ne-zero c.if-self-eq0.false in
+    rw (lt-ltb 0 _ above, lt-leb _ _ c.if-self-gt-LINES_LIMIT.true)
 
 pub loop-i-init : goal.loop-i-init
 loop-i-init c =
-    let p = plant (goal.at.loop-i-init c).Else-self-gt-LINES_LIMIT in
+    let p = plant c.before.before in
     (zero-le, sum-start line_energy 15000000000000 p.lines p.count, refl)
 
 pub returns-in_default : goal.returns-in_default
 unfolding lines_of
 returns-in_default c =
+    let above : 0 < c.args.self.heat = pos_of_ne-zero c.if-self-eq0.false in
     rw (
-      lt-ltb 0 _ (above (goal.at.returns-in_default c).Else-self-eq0),
+      lt-ltb 0 _ above,
       le-leb _ _ c.if-self-gt-LINES_LIMIT.false,
-      sym (turn (goal.at.returns-in_default c).In-loop-i false (energy-not-stated _ (sym c.energy.ensures ∙ ap energy_meaning c.in_default.is))),
+      sym (turn c.before.before.before.before false (energy-not-stated _ (sym c.energy.ensures ∙ ap energy_meaning c.in_default.is))),
     )
 
 pub overflow_add-total : goal.overflow_add-total
@@ -93,16 +88,18 @@ overflow_add-total c =
 
 pub loop-i-preserved : goal.loop-i-preserved
 loop-i-preserved c =
-    (search rules, summed-on c, turn (goal.at.loop-i-preserved c).In-loop-i true (energy-stated _ _ (stated c)).0)
+    (search rules, summed-on c, turn c.before.before.before.before.before true (energy-stated _ _ (stated c)).0)
 
 pub returns-then-self-total : goal.returns-then-self-total
 unfolding lines_of
 returns-then-self-total c =
-    let k = all-stated (goal.at.returns-then-self-total c).After-loop-i in
-    rw (lt-ltb 0 _ (above (goal.at.returns-then-self-total c).Else-self-eq0), le-leb _ _ c.if-self-gt-LINES_LIMIT.false, k.0, ← k.1, le-leb _ _ c.if-self-total.true)
+    let above : 0 < c.args.self.heat = pos_of_ne-zero c.if-self-eq0.false in
+    let k = all-stated c.before.before in
+    rw (lt-ltb 0 _ above, le-leb _ _ c.if-self-gt-LINES_LIMIT.false, k.0, ← k.1, le-leb _ _ c.if-self-total.true)
 
 pub returns : goal.returns
 unfolding lines_of
 returns c =
-    let k = all-stated (goal.at.returns c).After-loop-i in
-    rw (lt-ltb 0 _ (above (goal.at.returns c).Else-self-eq0), le-leb _ _ c.if-self-gt-LINES_LIMIT.false, k.0, ← k.1, lt-leb _ _ c.if-self-total.false)
+    let above : 0 < c.args.self.heat = pos_of_ne-zero c.if-self-eq0.false in
+    let k = all-stated c.before.before in
+    rw (lt-ltb 0 _ above, le-leb _ _ c.if-self-gt-LINES_LIMIT.false, k.0, ← k.1, lt-leb _ _ c.if-self-total.false)

@@ -32,23 +32,32 @@ are_within_limits-requires c = leb-true _ _ (and_both _ _ (fit c)).0
 pub returns-then-are_within_limits-eqfalse : goal.returns-then-are_within_limits-eqfalse
 returns-then-are_within_limits-eqfalse c =
     let a = c.args in
-    rw (plant-lines a.number a.self c.if-number-gt-LAST.false c.if-self-gt-SITE_LIMIT.false (fit (goal.at.returns-then-are_within_limits-eqfalse c).After-lines-1) false
+    rw (plant-lines a.number a.self c.if-number-gt-LAST.false c.if-self-gt-SITE_LIMIT.false (fit c.before.before) false
     (tested _ _ c.are_within_limits.ensures true c.if-are_within_limits-eqfalse.true))
 
--- Of lines within their limits the heat decides.
-decided : (c : goal.After-heat_judged-heat) (j : HeatJudged) → c.heat_judged-heat.result ≡ j
-    → let a = c.args in 
-    plant_judged a.number a.self ≡ by_heat a.self j
-decided c j e =
-    let a = c.args in 
-    plant-heat a.number a.self c.if-number-gt-LAST.false c.if-self-gt-SITE_LIMIT.false (fit c)
-    (tested _ _ c.are_within_limits.ensures false c.if-are_within_limits-eqfalse.false) j (sym c.heat_judged-heat.ensures ∙ e)
-
 pub returns-in-Nothing : goal.returns-in-Nothing
-returns-in-Nothing c = rw (decided (goal.at.returns-in-Nothing c).After-heat_judged-heat _ c.in-Nothing.is)
+returns-in-Nothing c =
+    let decided : (j : HeatJudged) → c.heat_judged-heat.result ≡ j
+    → let a = c.args in
+    plant_judged a.number a.self ≡ by_heat a.self j = λ j e. let a = c.args in
+    plant-heat a.number a.self c.if-number-gt-LAST.false c.if-self-gt-SITE_LIMIT.false (fit c.before.before.before)
+    (tested _ _ c.are_within_limits.ensures false c.if-are_within_limits-eqfalse.false) j (sym c.heat_judged-heat.ensures ∙ e) in
+    rw (decided _ c.in-Nothing.is)
 
 pub returns-in-Refused : goal.returns-in-Refused
-returns-in-Refused c = rw (decided (goal.at.returns-in-Refused c).After-heat_judged-heat _ c.in-Refused.is)
+returns-in-Refused c =
+    let decided : (j : HeatJudged) → c.heat_judged-heat.result ≡ j
+    → let a = c.args in
+    plant_judged a.number a.self ≡ by_heat a.self j = λ j e. let a = c.args in
+    plant-heat a.number a.self c.if-number-gt-LAST.false c.if-self-gt-SITE_LIMIT.false (fit c.before.before.before)
+    (tested _ _ c.are_within_limits.ensures false c.if-are_within_limits-eqfalse.false) j (sym c.heat_judged-heat.ensures ∙ e) in
+    rw (decided _ c.in-Refused.is)
 
 pub returns-in-Within : goal.returns-in-Within
-returns-in-Within c = rw (decided (goal.at.returns-in-Within c).After-heat_judged-heat _ c.in-Within.is)
+returns-in-Within c =
+    let decided : (j : HeatJudged) → c.heat_judged-heat.result ≡ j
+    → let a = c.args in
+    plant_judged a.number a.self ≡ by_heat a.self j = λ j e. let a = c.args in
+    plant-heat a.number a.self c.if-number-gt-LAST.false c.if-self-gt-SITE_LIMIT.false (fit c.before.before.before)
+    (tested _ _ c.are_within_limits.ensures false c.if-are_within_limits-eqfalse.false) j (sym c.heat_judged-heat.ensures ∙ e) in
+    rw (decided _ c.in-Within.is)

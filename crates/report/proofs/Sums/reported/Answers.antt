@@ -64,15 +64,20 @@ module _ (s : Sums) where
             ) (cc (ep, el, eb))
 
 pub returns-then-project-gt-GRAMS_LIMIT : goal.returns-then-project-gt-GRAMS_LIMIT
-returns-then-project-gt-GRAMS_LIMIT c = over-project c.args.self c.if-project-gt-GRAMS_LIMIT.true
+returns-then-project-gt-GRAMS_LIMIT c =
+    let both = over-project c.args.self c.if-project-gt-GRAMS_LIMIT.true in
+    record { None = both.0; None = both.1 }
 
 pub returns-then-leakage-gt-GRAMS_LIMIT : goal.returns-then-leakage-gt-GRAMS_LIMIT
-returns-then-leakage-gt-GRAMS_LIMIT c = over-leakage c.args.self c.if-project-gt-GRAMS_LIMIT.false c.if-leakage-gt-GRAMS_LIMIT.true
+returns-then-leakage-gt-GRAMS_LIMIT c =
+    let both = over-leakage c.args.self c.if-project-gt-GRAMS_LIMIT.false c.if-leakage-gt-GRAMS_LIMIT.true in
+    record { None = both.0; None = both.1 }
 
 pub returns-then-baseline-gt-GRAMS_LIMIT : goal.returns-then-baseline-gt-GRAMS_LIMIT
 returns-then-baseline-gt-GRAMS_LIMIT c =
-    over-baseline c.args.self c.if-project-gt-GRAMS_LIMIT.false
-    c.if-leakage-gt-GRAMS_LIMIT.false c.if-baseline-gt-GRAMS_LIMIT.true
+    let both = over-baseline c.args.self c.if-project-gt-GRAMS_LIMIT.false
+    c.if-leakage-gt-GRAMS_LIMIT.false c.if-baseline-gt-GRAMS_LIMIT.true in
+    record { None = both.0; None = both.1 }
 
 pub reduction-requires : goal.reduction-requires
 reduction-requires c =
@@ -84,7 +89,8 @@ reduction-requires c =
 
 pub returns : goal.returns
 returns c =
-    within c.args.self
+    let both = within c.args.self
     c.if-project-gt-GRAMS_LIMIT.false c.if-leakage-gt-GRAMS_LIMIT.false
     c.if-baseline-gt-GRAMS_LIMIT.false c.reported-project.ensures c.reported-leakage.ensures
-    c.reported-baseline.ensures c.reduction.ensures
+    c.reported-baseline.ensures c.reduction.ensures in
+    record { None = both.0; None = both.1 }

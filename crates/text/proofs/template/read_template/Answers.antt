@@ -75,7 +75,7 @@ returns-in_default c =
     (sym
     (left-none w s j i l.count l.numbers c.if-template-j.false
     (sym (piece-reads s i b) ∙ ap (piece_meaning b s) (sym c.read_piece-piece.ensures ∙ c.in_default.is)))
-    ∙ passed (goal.at.returns-in_default c).After-plain_bytes-plain)
+    ∙ passed c.before.before.before.before.before)
 
 pub overflow_add-count : goal.overflow_add-count
 overflow_add-count c = omega arith
@@ -98,20 +98,20 @@ loop-j-preserved c =
     let b = get_or w j 0 in
     let r = sym c.read_piece-piece.ensures ∙ c.in-Piece.is in
     let e = sym (piece-reads s i b) ∙ ap (piece_meaning b s) r in
-    let g = further-more s a.at i c.in-Piece.next (passed-further (goal.at.loop-j-preserved c).After-plain_bytes-plain) (piece-further s i b c.in-Piece.number c.in-Piece.next r) in
+    let g = further-more s a.at i c.in-Piece.next (passed-further c.before.before.before.before.before.before.before.before) (piece-further s i b c.in-Piece.number c.in-Piece.next r) in
     ⊎_elim
     (λ t. (
       omega (arith, t.3),
       omega arith,
       g,
       left-number w s j i l.count l.numbers h c.in-Piece.number c.in-Piece.next e (sym c.is_place.ensures ∙ t.0.taken) t.3 (t.2 ∙ t.1.ensures)
-          ∙ passed (goal.at.loop-j-preserved c).After-plain_bytes-plain,
+          ∙ passed c.before.before.before.before.before.before.before.before,
     ))
     (λ t. (
       omega (arith, t.2),
       omega arith,
       g,
-      left-byte w s j i l.count l.numbers h c.in-Piece.number c.in-Piece.next e (sym c.is_place.ensures ∙ t.0.left) t.2 t.1 ∙ passed (goal.at.loop-j-preserved c).After-plain_bytes-plain,
+      left-byte w s j i l.count l.numbers h c.in-Piece.number c.in-Piece.next e (sym c.is_place.ensures ∙ t.0.left) t.2 t.1 ∙ passed c.before.before.before.before.before.before.before.before,
     ))
     c.if-is_place.branch
 
@@ -130,5 +130,5 @@ returns-then-template-j c =
     let i = l.i + c.plain_bytes-plain.result in
     let j = l.j + c.plain_bytes-plain.result in
     match_is a.template.now a.text.now a.at l.numbers i
-    (sym (nothing_left a.template.now (drop i a.text.now) j l.count l.numbers c.if-template-j.true) ∙ passed (goal.at.returns-then-template-j c).After-plain_bytes-plain)
-    (passed-further (goal.at.returns-then-template-j c).After-plain_bytes-plain)
+    (sym (nothing_left a.template.now (drop i a.text.now) j l.count l.numbers c.if-template-j.true) ∙ passed c.before)
+    (passed-further c.before)
