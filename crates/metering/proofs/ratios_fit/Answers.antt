@@ -24,7 +24,7 @@ returns-then-ratio_fits-eqfalse c =
     →
     let a = c.args in
     has_ratio (get_or a.meters c.loop-i.i d) ≡ t → all_meters has_ratio (take a.count a.meters) ≡ (t && ratios_left a.meters a.count (c.loop-i.i + 1)) = λ d t e. c.loop-i.invariant.1
-    ∙ ratios-turn c.args.meters c.args.count c.loop-i.i d c.loop-i-test.true (room c.before.before.before.before)
+    ∙ ratios-turn c.args.meters c.args.count c.loop-i.i d c.loop-i-test.true (room c.before.before.before.before.before)
     ∙ ap (λ (s : Bool). s && ratios_left c.args.meters c.args.count (c.loop-i.i + 1)) e in
     sym (turned _ false (tested _ _ c.ratio_fits.ensures true c.if-ratio_fits-eqfalse.true))
 
@@ -34,7 +34,7 @@ loop-i-preserved c =
     →
     let a = c.args in
     has_ratio (get_or a.meters c.loop-i.i d) ≡ t → all_meters has_ratio (take a.count a.meters) ≡ (t && ratios_left a.meters a.count (c.loop-i.i + 1)) = λ d t e. c.loop-i.invariant.1
-    ∙ ratios-turn c.args.meters c.args.count c.loop-i.i d c.loop-i-test.true (room c.before.before.before.before)
+    ∙ ratios-turn c.args.meters c.args.count c.loop-i.i d c.loop-i-test.true (room c.before.before.before.before.before)
     ∙ ap (λ (s : Bool). s && ratios_left c.args.meters c.args.count (c.loop-i.i + 1)) e in
     (search rules, turned _ true (tested _ _ c.ratio_fits.ensures false c.if-ratio_fits-eqfalse.false))
 

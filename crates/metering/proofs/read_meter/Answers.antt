@@ -10,9 +10,6 @@ use Rattle.metering.proofs.Readings.{was-declined}
 use Rattle.metering.proofs.Energy.{both-accepted, meter-refused, both-given, meter-moved}
 use Rattle.metering.proofs.read_meter.Goals as goal
 
-abbrev earlier : goal.After-watt_hours-2 → goal.After-watt_hours
-earlier c = c.before.before.before.before.before
-
 pub returns-in_default : goal.returns-in_default
 returns-in_default c =
     let takes-is : let a = c.args in
@@ -26,9 +23,9 @@ returns-in_default c =
 
 pub returns-in_default-watt_hours : goal.returns-in_default-watt_hours
 returns-in_default-watt_hours c =
-    let adds-is : let a = (earlier c).before.before.before.args in watt_hours a.direction a.meter.ratio (adding a.meter) ≡ watt_hours_meaning c.watt_hours-2.result = let a = (earlier c).before.before.before.args in
+    let adds-is : let a = c.args in watt_hours a.direction a.meter.ratio (adding a.meter) ≡ watt_hours_meaning c.watt_hours-2.result = let a = c.args in
     ap (watt_hours a.direction a.meter.ratio) (sym c.adding.ensures) ∙ sym c.watt_hours-2.ensures in
-    let a = (earlier c.before.before).before.before.before.args in
+    let a = c.args in
     meter-refused a.direction a.meter (adding a.meter) (λ h. (both-accepted a.meter h).0)
     (was-declined a.direction a.meter.ratio (adding a.meter) _ (adds-is ∙ ap watt_hours_meaning c.in_default-watt_hours.is))
 
@@ -39,11 +36,11 @@ runs_back-requires c =
     ap (λ (d : Direction). watt_hours d m.ratio (taking m)) (sym c.reversed.ensures)
     ∙ ap (watt_hours c.reversed.result m.ratio) (sym c.taking.ensures)
     ∙ sym c.watt_hours.ensures in
-    let adds-is : let a = (earlier c).before.before.before.args in watt_hours a.direction a.meter.ratio (adding a.meter) ≡ watt_hours_meaning c.watt_hours-2.result = let a = (earlier c).before.before.before.args in
+    let adds-is : let a = c.args in watt_hours a.direction a.meter.ratio (adding a.meter) ≡ watt_hours_meaning c.watt_hours-2.result = let a = c.args in
     ap (watt_hours a.direction a.meter.ratio) (sym c.adding.ensures) ∙ sym c.watt_hours-2.ensures in
-    let takes-given : let a = (earlier c).before.before.before.args in
-    watt_hours (opposite a.direction) a.meter.ratio (taking a.meter) ≡ given c.in-Rounded.takes = takes-is (earlier c) ∙ ap watt_hours_meaning c.in-Rounded.is in
-    let a = (earlier c.before.before.before).before.before.before.args in
+    let takes-given : let a = c.args in
+    watt_hours (opposite a.direction) a.meter.ratio (taking a.meter) ≡ given c.in-Rounded.takes = takes-is ∙ ap watt_hours_meaning c.in-Rounded.is in
+    let a = c.args in
     both-given a.direction a.meter _ _ (adds-is ∙ ap watt_hours_meaning c.in-Rounded-watt_hours.is) takes-given
 
 pub returns : goal.returns
@@ -53,10 +50,10 @@ returns c =
     ap (λ (d : Direction). watt_hours d m.ratio (taking m)) (sym c.reversed.ensures)
     ∙ ap (watt_hours c.reversed.result m.ratio) (sym c.taking.ensures)
     ∙ sym c.watt_hours.ensures in
-    let adds-is : let a = (earlier c).before.before.before.args in watt_hours a.direction a.meter.ratio (adding a.meter) ≡ watt_hours_meaning c.watt_hours-2.result = let a = (earlier c).before.before.before.args in
+    let adds-is : let a = c.args in watt_hours a.direction a.meter.ratio (adding a.meter) ≡ watt_hours_meaning c.watt_hours-2.result = let a = c.args in
     ap (watt_hours a.direction a.meter.ratio) (sym c.adding.ensures) ∙ sym c.watt_hours-2.ensures in
-    let takes-given : let a = (earlier c).before.before.before.args in
-    watt_hours (opposite a.direction) a.meter.ratio (taking a.meter) ≡ given c.in-Rounded.takes = takes-is (earlier c) ∙ ap watt_hours_meaning c.in-Rounded.is in
-    let a = (earlier c.before.before.before.before).before.before.before.args in
+    let takes-given : let a = c.args in
+    watt_hours (opposite a.direction) a.meter.ratio (taking a.meter) ≡ given c.in-Rounded.takes = takes-is ∙ ap watt_hours_meaning c.in-Rounded.is in
+    let a = c.args in
     ap (Moved c.in-Rounded-watt_hours.adds c.in-Rounded.takes) c.runs_back.ensures
     ∙ meter-moved a.direction a.meter _ _ (adds-is ∙ ap watt_hours_meaning c.in-Rounded-watt_hours.is) takes-given

@@ -28,7 +28,7 @@ loop-i-init c = (zero-le, at_first c.args.direction c.args.meters c.args.count, 
 pub returns-in_default : goal.returns-in_default
 returns-in_default c =
     stops c.args.direction c.args.meters c.args.count c.loop-i.i _ c.loop-i.adds c.loop-i.takes c.loop-i.back
-    c.loop-i-test.true (room c.before.before.before.before.before.before) c.loop-i.invariant.1
+    c.loop-i-test.true (room c.before.before.before.before.before) c.loop-i.invariant.1
     (sym c.read_meter.ensures ∙ c.in_default.is)
 
 pub overflow_add-adds : goal.overflow_add-adds
@@ -38,15 +38,14 @@ pub overflow_add-takes : goal.overflow_add-takes
 overflow_add-takes c = omega (arith, (bounded c).1)
 
 pub loop-i-preserved : goal.loop-i-preserved
-loop-i-preserved c =
-    (
-      search rules,
-      goes_on c.args.direction c.args.meters c.args.count c.loop-i.i _ c.loop-i.adds c.loop-i.takes c.loop-i.back
-          c.loop-i-test.true (room c.before.before.before.before.before.before.before) c.loop-i.invariant.1
-          _ _ _ (sym c.read_meter.ensures ∙ c.in-Moved.is),
-      omega (arith, (bounded c).0),
-      omega (arith, (bounded c).1),
-    )
+loop-i-preserved c = (
+  search rules,
+  goes_on c.args.direction c.args.meters c.args.count c.loop-i.i _ c.loop-i.adds c.loop-i.takes c.loop-i.back
+      c.loop-i-test.true (room c.before.before.before.before.before) c.loop-i.invariant.1
+      _ _ _ (sym c.read_meter.ensures ∙ c.in-Moved.is),
+  omega (arith, (bounded c).0),
+  omega (arith, (bounded c).1),
+)
 
 pub returns : goal.returns
 returns c =

@@ -10,20 +10,21 @@ use Rattle.emissions.specs.Factor.{factor_limit, rounded_combined}
 use Rattle.emissions.specs.Grid.{margin_within_limits, weights_full, grid_judged}
 use Rattle.emissions.proofs.Grids.{rounded-limit}
 use Rattle.emissions.proofs.GridEntry.judged.Goals as goal
+use Rattle.emissions.proofs.GridEntry.judged.Goals.{Else-is_within_limits-eqfalse, Else-has_full_weights-eqfalse}
 
 pub returns-then-is_within_limits-eqfalse : goal.returns-then-is_within_limits-eqfalse
 unfolding grid_judged
 returns-then-is_within_limits-eqfalse c = rw (tested _ _ c.is_within_limits.ensures true c.if-is_within_limits-eqfalse.true)
 
 -- Past number 2 the margin is within its limits, past number 15 its weights sum to 100.
-within : (c : goal.Else-is_within_limits-eqfalse) → margin_within_limits c.args.self.margin ≡ true
+within : (c : Else-is_within_limits-eqfalse) → margin_within_limits c.args.self.margin ≡ true
 within c = tested _ _ c.is_within_limits.ensures false c.if-is_within_limits-eqfalse.false
 
-full : (c : goal.Else-has_full_weights-eqfalse) → weights_full c.args.self.margin ≡ true
+full : (c : Else-has_full_weights-eqfalse) → weights_full c.args.self.margin ≡ true
 full c = tested _ _ c.has_full_weights.ensures false c.if-has_full_weights-eqfalse.false
 
 -- Then both roundings are within the limit.
-both-within : (c : goal.Else-has_full_weights-eqfalse) → let m = c.args.self.margin in 
+both-within : (c : Else-has_full_weights-eqfalse) → let m = c.args.self.margin in
     (rounded_combined Up m ≤ factor_limit) × (rounded_combined Down m ≤ factor_limit)
 both-within c =
     let h = within c.before.before in

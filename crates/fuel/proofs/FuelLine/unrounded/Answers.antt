@@ -16,7 +16,7 @@ fits l k h e = subst (λ (x : FuelKind). kind_fits x ≡ true) e h
 
 -- So its products are bounded.
 energy : (c : goal.In-Energy)
-    → 
+    →
     (c.in-Energy.quantity * c.in-Energy.ncv ≤ 15000000000000) × (c.in-Energy.quantity * c.in-Energy.ncv * c.in-Energy.factor ≤ 3000000000000000000)
 energy c = energy-product _ _ _ (fits _ _ c.requires c.in-Energy.is)
 
@@ -24,7 +24,7 @@ mass : (c : goal.In-Mass) → c.in-Mass.quantity * c.in-Mass.carbon ≤ 10000000
 mass c = mass-product _ _ (fits _ _ c.requires c.in-Mass.is)
 
 volume : (c : goal.In-Volume)
-    → 
+    →
     (c.in-Volume.quantity * c.in-Volume.density ≤ 200000000000) × (c.in-Volume.quantity * c.in-Volume.density * c.in-Volume.carbon ≤ 2000000000000000)
 volume c = volume-product _ _ _ (fits _ _ c.requires c.in-Volume.is)
 
