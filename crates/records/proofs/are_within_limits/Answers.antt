@@ -23,7 +23,7 @@ loop-i-preserved c =
     →
     let a = c.args in
     (t && all_within_limits (drop (c.loop-i.i + 1) (take a.count a.lines))) ≡ all_within_limits (take a.count a.lines) = λ t e. let a = c.args in
-    sym (next-line within_limits a.lines a.count c.loop-i.i _ t c.loop-i-test.true (room c.before.before.before.before)
+    sym (next-line within_limits a.lines a.count c.loop-i.i _ t c.loop-i-test.true (room c.before.before.before.before.before)
     (sym c.is_within_limits.ensures ∙ e))
     ∙ c.loop-i.invariant.1 in
     (search rules, turn true c.if-is_within_limits.true)
@@ -34,7 +34,7 @@ returns-else-is_within_limits c =
     →
     let a = c.args in
     (t && all_within_limits (drop (c.loop-i.i + 1) (take a.count a.lines))) ≡ all_within_limits (take a.count a.lines) = λ t e. let a = c.args in
-    sym (next-line within_limits a.lines a.count c.loop-i.i _ t c.loop-i-test.true (room c.before.before.before.before)
+    sym (next-line within_limits a.lines a.count c.loop-i.i _ t c.loop-i-test.true (room c.before.before.before.before.before)
     (sym c.is_within_limits.ensures ∙ e))
     ∙ c.loop-i.invariant.1 in
     turn false c.if-is_within_limits.false

@@ -7,9 +7,9 @@ use Rattle.records.proofs.GridRecord.entered.Goals as goal
 pub returns-in_default : goal.returns-in_default
 returns-in_default c =
     let e = judged-as c.judged-judged.ensures c.in_default.is in
-    (rw e, rw (e, c.refusal.ensures ∙ ap grid_refusal c.in_default.is))
+    record { kept = rw e; answer = rw (e, c.refusal.ensures ∙ ap grid_refusal c.in_default.is) }
 
 pub returns : goal.returns
 returns c =
     let e = judged-as c.judged-judged.ensures c.in-Accepted.is in
-    (rw e, rw e)
+    record { kept = rw e; answer = rw e }

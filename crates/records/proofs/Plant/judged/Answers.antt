@@ -22,7 +22,7 @@ returns-then-figures_fit-eqfalse c =
 
 -- The number of lines and the generation are within their limits.
 fit : (c : goal.After-lines-1)
-    → let p = c.args.self in 
+    → let p = c.args.self in
     (leb p.count 4 && leb p.generation 100000000) ≡ true
 fit c = tested _ _ c.figures_fit.ensures false c.if-figures_fit-eqfalse.false
 
@@ -40,7 +40,7 @@ returns-in-Nothing c =
     let decided : (j : HeatJudged) → c.heat_judged-heat.result ≡ j
     → let a = c.args in
     plant_judged a.number a.self ≡ by_heat a.self j = λ j e. let a = c.args in
-    plant-heat a.number a.self c.if-number-gt-LAST.false c.if-self-gt-SITE_LIMIT.false (fit c.before.before.before)
+    plant-heat a.number a.self c.if-number-gt-LAST.false c.if-self-gt-SITE_LIMIT.false (fit c.before.before.before.before)
     (tested _ _ c.are_within_limits.ensures false c.if-are_within_limits-eqfalse.false) j (sym c.heat_judged-heat.ensures ∙ e) in
     rw (decided _ c.in-Nothing.is)
 
@@ -49,7 +49,7 @@ returns-in-Refused c =
     let decided : (j : HeatJudged) → c.heat_judged-heat.result ≡ j
     → let a = c.args in
     plant_judged a.number a.self ≡ by_heat a.self j = λ j e. let a = c.args in
-    plant-heat a.number a.self c.if-number-gt-LAST.false c.if-self-gt-SITE_LIMIT.false (fit c.before.before.before)
+    plant-heat a.number a.self c.if-number-gt-LAST.false c.if-self-gt-SITE_LIMIT.false (fit c.before.before.before.before)
     (tested _ _ c.are_within_limits.ensures false c.if-are_within_limits-eqfalse.false) j (sym c.heat_judged-heat.ensures ∙ e) in
     rw (decided _ c.in-Refused.is)
 
@@ -58,6 +58,6 @@ returns-in-Within c =
     let decided : (j : HeatJudged) → c.heat_judged-heat.result ≡ j
     → let a = c.args in
     plant_judged a.number a.self ≡ by_heat a.self j = λ j e. let a = c.args in
-    plant-heat a.number a.self c.if-number-gt-LAST.false c.if-self-gt-SITE_LIMIT.false (fit c.before.before.before)
+    plant-heat a.number a.self c.if-number-gt-LAST.false c.if-self-gt-SITE_LIMIT.false (fit c.before.before.before.before)
     (tested _ _ c.are_within_limits.ensures false c.if-are_within_limits-eqfalse.false) j (sym c.heat_judged-heat.ensures ∙ e) in
     rw (decided _ c.in-Within.is)

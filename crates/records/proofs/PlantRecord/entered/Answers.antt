@@ -7,9 +7,9 @@ use Rattle.records.proofs.PlantRecord.entered.Goals as goal
 pub returns-in_default : goal.returns-in_default
 returns-in_default c =
     let a = c.args in
-    (rw (was-refused (plant_judged a.number a.plant) _ (sym c.judged-answer.ensures ∙ c.in_default.is)), c.judged-answer.ensures)
+    record { kept = rw (was-refused (plant_judged a.number a.plant) _ (sym c.judged-answer.ensures ∙ c.in_default.is)); answer = c.judged-answer.ensures }
 
 pub returns : goal.returns
 returns c =
     let a = c.args in
-    (rw (plant-accepted a.number a.plant (sym c.judged-answer.ensures ∙ c.in-Accepted.is)) c.of.ensures, c.judged-answer.ensures)
+    record { kept = rw (plant-accepted a.number a.plant (sym c.judged-answer.ensures ∙ c.in-Accepted.is)) c.of.ensures; answer = c.judged-answer.ensures }

@@ -15,22 +15,19 @@ use Rattle.records.proofs.SourceEntry.judged.Goals as goal
 
 pub returns-then-number-gt-LAST : goal.returns-then-number-gt-LAST
 returns-then-number-gt-LAST c = let a = c.args in
-    let both = sym (source-number a.number a.self c.if-number-gt-LAST.true) in
-    record { None = both.0; None = both.1 }
+    sym (source-number a.number a.self c.if-number-gt-LAST.true)
 
 pub returns-then-supply_is_within_limits-eqfalse : goal.returns-then-supply_is_within_limits-eqfalse
 returns-then-supply_is_within_limits-eqfalse c =
     let a = c.args in
-    let both = sym (source-site a.number a.self c.if-number-gt-LAST.false (tested _ _ c.supply_is_within_limits.ensures true c.if-supply_is_within_limits-eqfalse.true)) in
-    record { None = both.0; None = both.1 }
+    sym (source-site a.number a.self c.if-number-gt-LAST.false (tested _ _ c.supply_is_within_limits.ensures true c.if-supply_is_within_limits-eqfalse.true))
 
 pub returns-then-loss_is_within_limits-eqfalse : goal.returns-then-loss_is_within_limits-eqfalse
 returns-then-loss_is_within_limits-eqfalse c =
     let a = c.args in
-    let both = sym (source-loss a.number a.self c.if-number-gt-LAST.false
+    sym (source-loss a.number a.self c.if-number-gt-LAST.false
     (tested _ _ c.supply_is_within_limits.ensures false c.if-supply_is_within_limits-eqfalse.false)
-    (tested _ _ c.loss_is_within_limits.ensures true c.if-loss_is_within_limits-eqfalse.true)) in
-    record { None = both.0; None = both.1 }
+    (tested _ _ c.loss_is_within_limits.ensures true c.if-loss_is_within_limits-eqfalse.true))
 
 pub returns-in_default : goal.returns-in_default
 returns-in_default c =
@@ -40,8 +37,7 @@ returns-in_default c =
     (tested _ _ c.supply_is_within_limits.ensures false c.if-supply_is_within_limits-eqfalse.false)
     (tested _ _ c.loss_is_within_limits.ensures false c.if-loss_is_within_limits-eqfalse.false) j
     (sym (c.judge_meters-sums.ensures ∙ ap (λ (d : Direction). judged_meters d a.self.count a.self.meters) c.direction.ensures) ∙ e) in
-    let both = ap refused (c.refusal.ensures ∙ ap meters_refusal c.in_default.is) ∙ sym (past _ c.in_default.is) in
-    record { None = both.0; None = both.1 }
+    ap refused (c.refusal.ensures ∙ ap meters_refusal c.in_default.is) ∙ sym (past _ c.in_default.is)
 
 pub returns-then-is_matched-eqfalse : goal.returns-then-is_matched-eqfalse
 returns-then-is_matched-eqfalse c =
@@ -56,8 +52,7 @@ returns-then-is_matched-eqfalse c =
     source_judged a.number a.self ≡ refuse_unless 5 (not t) (settled a.self (settled_energy c.in-Read.adds c.in-Read.takes)) = λ t q. let a = c.args in
     past (metersJudged.Read c.in-Read.adds c.in-Read.takes) c.in-Read.is
     ∙ ap (λ (b : Bool). refuse_unless 5 b (settled a.self (settled_energy c.in-Read.adds c.in-Read.takes))) (tested _ _ c.is_matched.ensures t q) in
-    let both = sym (after-sums true c.if-is_matched-eqfalse.true) in
-    record { None = both.0; None = both.1 }
+    sym (after-sums true c.if-is_matched-eqfalse.true)
 
 pub returns-in_default-settled : goal.returns-in_default-settled
 returns-in_default-settled c =
@@ -76,8 +71,7 @@ returns-in_default-settled c =
     → let a = c.args in
     source_judged a.number a.self ≡ settled a.self j = λ j e. let a = c.args in
     after-sums false c.if-is_matched-eqfalse.false ∙ ap (settled a.self) (sym c.settle_energy-settled.ensures ∙ e) in
-    let both = ap refused (c.refusal-in_default-settled.ensures ∙ ap energy_refusal c.in_default-settled.is) ∙ sym (after-energy _ c.in_default-settled.is) in
-    record { None = both.0; None = both.1 }
+    ap refused (c.refusal-in_default-settled.ensures ∙ ap energy_refusal c.in_default-settled.is) ∙ sym (after-energy _ c.in_default-settled.is)
 
 pub returns : goal.returns
 returns c =
@@ -96,5 +90,4 @@ returns c =
     → let a = c.args in
     source_judged a.number a.self ≡ settled a.self j = λ j e. let a = c.args in
     after-sums false c.if-is_matched-eqfalse.false ∙ ap (settled a.self) (sym c.settle_energy-settled.ensures ∙ e) in
-    let both = sym (after-energy (energyJudged.Accepted c.in-Accepted.energy) c.in-Accepted.is) in
-    record { None = both.0; None = both.1 }
+    sym (after-energy (energyJudged.Accepted c.in-Accepted.energy) c.in-Accepted.is)

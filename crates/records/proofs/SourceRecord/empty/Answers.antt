@@ -6,5 +6,4 @@ use Rattle.records.proofs.SourceRecord.empty.Goals as goal
 pub returns : goal.returns
 unfolding no_source
 returns c =
-    let both = refl in
-    record { None = both.0; None = both.1; None = both.2 }
+    refl

@@ -6,9 +6,9 @@ use Rattle.records.proofs.SourceRecord.entered.Goals as goal
 
 pub returns-in_default : goal.returns-in_default
 returns-in_default c =
-    (rw (sym c.judged-judged.ensures ∙ ap source_meaning c.in_default.is), c.answer.ensures ∙ ap answer_of c.judged-judged.ensures)
+    record { kept = rw (sym c.judged-judged.ensures ∙ ap source_meaning c.in_default.is); answer = c.answer.ensures ∙ ap answer_of c.judged-judged.ensures }
 
 pub returns : goal.returns
 returns c =
     let j = sym c.judged-judged.ensures ∙ ap source_meaning c.in-Accepted.is in
-    (rw j c.of.ensures, rw j)
+    record { kept = rw j c.of.ensures; answer = rw j }
