@@ -18,8 +18,8 @@ overflow_cast-result c =
 -- What is counted from -1.
 counted : (c : goal.Else-number-ge0) → let z = c.args.number in negsuc 0 -ℤ to_z w64 (of_z w64 z) ≡ pos (mag z)
 counted c =
-    let z = c.args.number in 
-    let f = c.ranges.number in 
+    let z = c.args.number in
+    let f = c.ranges.number in
     ap (λ (y : ℤ). negsuc 0 -ℤ y) (to_z-of_z w64 z f ∙ below-zero z f c.if-number-ge0.false) ∙ from-minus-one (mag z)
 
 again : (c : goal.Else-number-ge0) → let z = c.args.number in to_z w64 (of_z w64 (negsuc 0 -ℤ to_z w64 (of_z w64 z))) ≡ pos (mag z)

@@ -6,4 +6,4 @@ pub returns : goal.returns
 unfolding register
 returns c =
     let both = c.put_digits.ensures in
-    record { value = both.0; buffer_after = both.1 }
+    record { value = both.value; buffer_after = both.buffer_after }

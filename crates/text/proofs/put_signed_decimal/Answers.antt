@@ -18,17 +18,22 @@ returns-then-number-ge0 c =
 
 pub returns-then-buffer-at : goal.returns-then-buffer-at
 returns-then-buffer-at c =
+    let both = put-none c.args.buffer.now c.args.at (45 ∷ decimal (nat_abs c.args.number)) (omega arith) in
     rw (signed-below-zero c.args.number c.ranges.number c.if-number-ge0.false)
-    (put-none c.args.buffer.now c.args.at (45 ∷ decimal (nat_abs c.args.number)) (omega arith))
+    (record { value = both.0; buffer_after = both.1 })
 
 pub returns-then-next-buffer : goal.returns-then-next-buffer
 returns-then-next-buffer c =
     let m = c.magnitude-2.ensures ∙ ap nat_abs (to_z-of_z w64 c.args.number c.ranges.number) in
+    let p = c.put_decimal-next.ensures in
+    let both = put-before c.args.buffer.now c.args.at 45 (decimal c.magnitude-2.result) p.value p.buffer_after c.if-next-buffer.true in
     rw (signed-below-zero c.args.number c.ranges.number c.if-number-ge0.false, ← m)
-    (put-before c.args.buffer.now c.args.at 45 _ c.put_decimal-next.ensures.value c.put_decimal-next.ensures.buffer_after c.if-next-buffer.true)
+    (record { value = both.0; buffer_after = both.1 })
 
 pub returns-else-next-buffer : goal.returns-else-next-buffer
 returns-else-next-buffer c =
     let m = c.magnitude-2.ensures ∙ ap nat_abs (to_z-of_z w64 c.args.number c.ranges.number) in
+    let p = c.put_decimal-next.ensures in
+    let both = put-before-none c.args.buffer.now c.args.at 45 (decimal c.magnitude-2.result) p.value p.buffer_after c.if-next-buffer.false in
     rw (signed-below-zero c.args.number c.ranges.number c.if-number-ge0.false, ← m)
-    (put-before-none c.args.buffer.now c.args.at 45 _ c.put_decimal-next.ensures.value c.put_decimal-next.ensures.buffer_after c.if-next-buffer.false)
+    (record { value = both.0; buffer_after = both.1 })
