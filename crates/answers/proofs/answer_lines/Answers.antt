@@ -1,7 +1,6 @@
 -- `answers::answer_lines` meets its contract: what is left to put gives what the whole output gives. Assumes nothing.
 use mathlib.Core.Path.{◌≡◌, refl, sym, ap, ◌∙◌}
 use mathlib.Core.List.{List}
-use mathlib.Core.Logic.{⊎_elim}
 use Prim.Native.Nat.{ℕ, ◌*◌, ◌-◌, ◌≤◌}
 use native.Mathlib.Omega.{arith}
 use lib.ListN.{length, take, drop}
@@ -20,6 +19,7 @@ use Rattle.answers.proofs.Owner.{Answered, no-form-answered, grid-answered, plan
 use Rattle.answers.proofs.Replies.{output-line-by-line, text_from, text_at, text-past}
 use Rattle.answers.proofs.Lengths.{output-fits}
 use Rattle.answers.proofs.answer_lines.Goals as goal
+use Rattle.answers.proofs.answer_lines.Goals.{Joined-kind, in-NoForm, in-GridForm, in-PlantForm, in-SourceForm, in-ReportForm}
 
 within : (input d : List ℕ) → length input ≤ 65536 → 18 * length input ≤ length d → length (output input) ≤ length d
 within input d h k =
@@ -38,12 +38,8 @@ line_end-end-requires c = omega arith
 pub slice_bounds-read_line-count : goal.slice_bounds-read_line-count
 slice_bounds-read_line-count c = omega arith
 
-part-read-line-start : tie.Need-slice-bounds-read-line-start invariant-loop decreases-loop
-part-read-line-start c = omega arith
-
-part-read-line-end : tie.Need-slice-bounds-read-line-end invariant-loop decreases-loop
-part-read-line-end c =
-    omega (arith, line-fits c.before.before.before.before.before.before.args.input.now c.before.before.loop.at (omega arith))
+pub slice_bounds-read_line-end : goal.slice_bounds-read_line-end
+slice_bounds-read_line-end c = omega (arith, line-fits c.args.input.now c.loop-at.at (omega arith))
 
 pub overflow_add-at : goal.overflow_add-at
 overflow_add-at c =
@@ -53,35 +49,42 @@ pub loop-at-smaller : goal.loop-at-smaller
 loop-at-smaller c = omega arith
 
 -- Where the kinds of lines meet again, the ledger and the reply are those of the line that was read.
-met : (c : goal.Joined-kind)
+met : (c : Joined-kind)
     → Answered c.loop-at.ledger c.read_line-line.result c.match-kind.ledger c.match-kind.reply
 unfolding no_plant no_source
 met c =
     let L = c.loop-at.ledger in
-    let ln = c.read_line-line.result in 
-    ⊎_elim (λ w. rw (w.2, w.3) (no-form-answered L ln w.1.given.1))
-    (⊎_elim
-    (λ w. rw (w.6, w.7) (grid-answered L ln w.1.given.1 _ _ _ w.3.ensures.0 w.3.ensures.1 w.5.ensures))
-    (⊎_elim
-    (λ w. rw (w.7, w.8) (plant-answered L ln _ refl w.1.given.1 _ _ _ w.4.ensures.0 w.4.ensures.1 w.6.ensures))
-    (⊎_elim
-    (λ w. rw (w.7, w.8) (source-answered L ln _ refl w.1.given.1 _ _ _ w.4.ensures.0 w.4.ensures.1 w.6.ensures))
-    (λ w. rw (w.6, w.7) (report-answered L ln w.1.given.1 _ w.5.ensures)))))
-    c.match-kind.branch
+    let ln = c.read_line-line.result in
+    elim c.match-kind.branch [
+      | in-NoForm w ↦ rw (w.ledger-is, w.reply-is) (no-form-answered L ln w.in-NoForm.is)
+      | in-GridForm w ↦
+          rw (w.ledger-is, w.reply-is)
+          (grid-answered L ln w.in-GridForm.is _ _ _ w.entered-answer.ensures.kept w.entered-answer.ensures.answer
+          w.entry_reply-reply.ensures)
+      | in-PlantForm w ↦
+          rw (w.ledger-is, w.reply-is)
+          (plant-answered L ln _ refl w.in-PlantForm.is _ _ _ w.plant_after-answer.ensures.kept w.plant_after-answer.ensures.answer
+          w.entry_reply-reply-in-PlantForm.ensures)
+      | in-SourceForm w ↦
+          rw (w.ledger-is, w.reply-is)
+          (source-answered L ln _ refl w.in-SourceForm.is _ _ _ w.source_after-answer.ensures.kept w.source_after-answer.ensures.answer
+          w.entry_reply-reply-in-SourceForm.ensures)
+      | in-ReportForm w ↦ rw (w.ledger-is, w.reply-is) (report-answered L ln w.in-ReportForm.is _ w.report_on-reply.ensures)
+    ]
 
 pub loop-at-preserved : goal.loop-at-preserved
 loop-at-preserved c =
     let l = c.loop-at in
     let input = c.args.input.now in
     let line = take (c.line_end-end.result - l.at) (drop l.at input) in
-    let done = met c.before.before.before.before in
+    let done = met (goal.at.loop-at-preserved c).Joined-kind in
     let asked = c.read_line-line.ensures in
     let t = text_at l.ledger input l.at c.line_end-end.result c.loop-at-test.true c.line_end-end.ensures in
     let told = done.told ∙ read-replies l.ledger line _ _ asked in
     let put_all_lem = c.put_reply-next.ensures ∙ ap (λ (x : Reply). put_parts (placed l.buffer l.next) (reply_parts x)) told in
     let left = put-part l.buffer l.next (reply_parts (line_reply l.ledger (line_call line))) _ (rw t at l.invariant.1) put_all_lem in
     rw (done.ledger ∙ read-steps l.ledger line _ _ asked)
-    (left.0 ∙ ap (put (placed l.buffer l.next)) (sym t) ∙ l.invariant.0, left.1, c.put_reply-next.auto.0 ∙ l.invariant.2)
+    (left.0 ∙ ap (put (placed l.buffer l.next)) (sym t) ∙ l.invariant.0, left.1, c.put_reply-next.auto.output ∙ l.invariant.2)
 
 pub shape_of-buffer : goal.shape_of-buffer
 shape_of-buffer c = c.loop-at.invariant.2

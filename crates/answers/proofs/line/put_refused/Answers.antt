@@ -6,7 +6,7 @@ use Rattle.answers.proofs.line.put_refused.Goals as goal
 pub returns : goal.returns
 unfolding reply_parts
 returns c =
-    put_first _ _ _ _ c.put_word-digits.ensures
-    (put_first _ _ _ _ c.put_decimal-end.ensures
-    (put_first _ _ _ _ c.put_word.ensures
+    put_first _ _ _ _ (c.put_word-digits.ensures.value, c.put_word-digits.ensures.buffer_after)
+    (put_first _ _ _ _ (c.put_decimal-end.ensures.value, c.put_decimal-end.ensures.buffer_after)
+    (put_first _ _ _ _ (c.put_word.ensures.value, c.put_word.ensures.buffer_after)
     (put_last _)))

@@ -6,9 +6,9 @@ use Rattle.answers.proofs.line.put_refused_at.Goals as goal
 pub returns : goal.returns
 unfolding reply_parts
 returns c =
-    put_first _ _ _ _ c.put_word-digits.ensures
-    (put_first _ _ _ _ c.put_decimal-place.ensures
-    (put_first _ _ _ _ c.put_word-digits-2.ensures
-    (put_first _ _ _ _ c.put_decimal-end.ensures
-    (put_first _ _ _ _ c.put_word.ensures
+    put_first _ _ _ _ (c.put_word-digits.ensures.value, c.put_word-digits.ensures.buffer_after)
+    (put_first _ _ _ _ (c.put_decimal-place.ensures.value, c.put_decimal-place.ensures.buffer_after)
+    (put_first _ _ _ _ (c.put_word-digits-2.ensures.value, c.put_word-digits-2.ensures.buffer_after)
+    (put_first _ _ _ _ (c.put_decimal-end.ensures.value, c.put_decimal-end.ensures.buffer_after)
+    (put_first _ _ _ _ (c.put_word.ensures.value, c.put_word.ensures.buffer_after)
     (put_last _)))))

@@ -16,9 +16,9 @@ returns c =
     put_all _ _ _ c.put_side-leakage.ensures
     (put_all _ _ _ c.put_side-baseline.ensures
     (put_all _ _ _ c.put_side-reduction.ensures
-    (put_first _ _ _ _ c.put_word-number.ensures
-    (put_first _ _ _ _ (rw back at c.put_signed_decimal-end.ensures)
-    (put_first _ _ _ _ c.put_word.ensures
+    (put_first _ _ _ _ (c.put_word-number.ensures.value, c.put_word-number.ensures.buffer_after)
+    (put_first _ _ _ _ (rw back at c.put_signed_decimal-end.ensures.value, rw back at c.put_signed_decimal-end.ensures.buffer_after)
+    (put_first _ _ _ _ (c.put_word.ensures.value, c.put_word.ensures.buffer_after)
     (put_last _))))))
 
 pub shape_of-output : goal.shape_of-output
