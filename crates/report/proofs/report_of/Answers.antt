@@ -14,6 +14,7 @@ use Rattle.report.specs.declared.Walked.TheVariants.{Refused, Summed}
 use Rattle.report.proofs.Summing.{totals-gave, totals-damaged}
 use Rattle.report.proofs.Walks.{table_is, report-figures}
 use Rattle.report.proofs.report_of.Goals as goal
+use Rattle.report.proofs.report_of.Goals.{Else-is_intact-eqfalse, In-Summed, After-walk-walked}
 
 -- What a walk answers.
 abbrev answer_to : Walked → Reply
@@ -26,11 +27,11 @@ as-reported (declined n k) = refl
 as-reported (figured fs) = refl
 
 -- The grid, the sources and the plants pass their tests.
-grid-passes : (c : goal.Else-is_intact-eqfalse) → grid_intact c.args.grid ≡ true
+grid-passes : (c : Else-is_intact-eqfalse) → grid_intact c.args.grid ≡ true
 grid-passes c = tested _ _ c.is_intact.ensures false c.if-is_intact-eqfalse.false
 
-sources-pass : (c : goal.In-Summed)
-    → let a = c.args in 
+sources-pass : (c : In-Summed)
+    → let a = c.args in
     (sources_intact a.sources ≡ true) × (c.in-Summed.totals ≡ totals_of (source_place a.sources))
 sources-pass c =
     totals-gave c.args.sources _ (sym c.in-Summed.is ∙ c.totals_of.ensures)
@@ -49,34 +50,39 @@ returns-in_default c =
 pub returns-then-summed-eqfalse : goal.returns-then-summed-eqfalse
 unfolding intact checked_report_of
 returns-then-summed-eqfalse c =
-    rw (grid-passes c.before.before.before.before.before.before.before, tested _ _ c.site_sums-summed.ensures.intact true c.if-summed-eqfalse.true)
+    rw (grid-passes c.before.before.before.before.before, tested _ _ c.site_sums-summed.ensures.intact true c.if-summed-eqfalse.true)
 
 pub walk-walked-requires : goal.walk-walked-requires
 walk-walked-requires c =
-    (grid-passes c.before.before.before.before.before.before.before.before.before, c.site_factors.ensures.bound, (sources-pass c.before.before.before.before.before).0)
+    let s = c.before.before.before.before.before in
+    (grid-passes s.before.before, c.site_factors.ensures.bound, (sources-pass s).0)
 
 -- The answer to the walk is the report's.
-walked-so : (c : goal.After-walk-walked) (v : Walked) → c.walk-walked.result ≡ v
-    → let a = c.args in 
+walked-so : (c : After-walk-walked) (v : Walked) → c.walk-walked.result ≡ v
+    → let a = c.args in
     answer_to v ≡ checked_report_of (input_of_records a.grid a.plants a.sources)
 unfolding intact checked_report_of report_of
 walked-so c v e =
-    let a = c.args in 
+    let a = c.args in
     let b = input_of_records a.grid a.plants a.sources in
-    let factors = c.site_factors.result in 
-    let table = table_is (site_of (site_plants a.plants)) c.site_sums-summed.result.sites factors (c.site_sums-summed.ensures.sites (tested _ _ refl false c.if-summed-eqfalse.false)) c.site_factors.ensures.factors in
-    rw (grid-passes c.before.before.before.before.before.before.before.before.before.before, plants-pass c.before.before.before, (sources-pass c.before.before.before.before.before.before).0) (
+    let s = c.before.before.before.before.before.before in
+    let factors = c.site_factors.result in
+    let grid : grid_intact a.grid ≡ true = grid-passes s.before.before in
+    let plants : plants_intact a.plants ≡ true = tested _ _ c.site_sums-summed.ensures.intact false c.if-summed-eqfalse.false in
+    let sources = sources-pass s in
+    let table = table_is (site_of (site_plants a.plants)) c.site_sums-summed.result.sites factors
+    (c.site_sums-summed.ensures.sites (tested _ _ refl false c.if-summed-eqfalse.false)) c.site_factors.ensures.factors in
+    rw (grid, plants, sources.0) (
     ap answer_to (sym e ∙ c.walk-walked.ensures.walked)
-    ∙ ap (λ (t : Totals). answer_to (walked_of (figures_by (table_figure a.grid factors t) (standing (source_place a.sources) 0 32))))
-    (sources-pass c.before.before.before.before.before.before).1
-    ∙ ap (λ (x : Figures). answer_to (walked_of x)) (report-figures a.grid a.plants a.sources factors table (sources-pass c.before.before.before.before.before.before).0)
+    ∙ ap (λ (t : Totals). answer_to (walked_of (figures_by (table_figure a.grid factors t) (standing (source_place a.sources) 0 32)))) sources.1
+    ∙ ap (λ (x : Figures). answer_to (walked_of x)) (report-figures a.grid a.plants a.sources factors table sources.0)
     ∙ as-reported (figures_from b (sources_of b)))
 
 pub reported-requires : goal.reported-requires
 reported-requires c = subst WalkedWithin c.in-Summed-walked.is c.walk-walked.ensures.bound
 
 pub returns-in-Refused : goal.returns-in-Refused
-returns-in-Refused c = walked-so c.before.before.before _ c.in-Refused.is
+returns-in-Refused c = walked-so c.before _ c.in-Refused.is
 
 pub returns-in-Summed-walked : goal.returns-in-Summed-walked
-returns-in-Summed-walked c = c.reported.ensures ∙ walked-so c.before.before.before.before _ c.in-Summed-walked.is
+returns-in-Summed-walked c = c.reported.ensures ∙ walked-so c.before.before _ c.in-Summed-walked.is

@@ -3,7 +3,6 @@
 use borrow.Author.Rules.{rules}
 use mathlib.Core.Path.{◌≡◌, refl, sym, ap, ◌∙◌}
 use mathlib.Core.Bool.{true, false}
-use mathlib.Core.Logic.{⊎_elim}
 use mathlib.Core.Option.{some}
 use Prim.Native.Nat.{◌-◌, zero-le}
 use native.Mathlib.Omega.{arith}
@@ -14,32 +13,32 @@ use Rattle.report.specs.Intact.{source_intact, all_intact}
 use Rattle.report.specs.Steps.{totals_with}
 use Rattle.report.proofs.Summing.{intact-next, not-intact, source_fits, total-start, total-turn, total-end, within_none, within_more, within-next}
 use Rattle.report.proofs.totals_of.Goals as goal
+use Rattle.report.proofs.totals_of.Goals.{After-source-source, Else-source_is_intact-eqfalse, Joined-held, then-held+else-source_is_intact-eqfalse, else-held}
 
 -- The source that was read is what stands under number i.
-standing-there : (c : goal.After-source-source)
-    → 
+standing-there : (c : After-source-source)
+    →
     source_place c.args.sources c.loop-i.i ≡ some c.source-source.result
 unfolding no_source
 standing-there c = rw (c.source-source.ensures, c.if-held.true)
 
 -- It was tested to be intact.
-intact-there : (c : goal.Else-source_is_intact-eqfalse) → source_intact (some c.source-source.result) ≡ true
+intact-there : (c : Else-source_is_intact-eqfalse) → source_intact (some c.source-source.result) ≡ true
 intact-there c = tested _ _ c.source_is_intact.ensures false c.if-source_is_intact-eqfalse.false
 
 -- What stands under number i, if anything, is intact and was added.
-added : (c : goal.Joined-held)
-    → 
+added : (c : Joined-held)
+    →
     let o = source_place c.args.sources c.loop-i.i in
     (source_intact o ≡ true) × (c.if-held.totals ≡ totals_with c.loop-i.totals o)
 unfolding no_source
-added c =
-    ⊎_elim
-    (λ w.
-    let s : goal.After-source-source = record { before = record { before = c.before; if1 = w.0 }; source = w.1 } in
-    let k = intact-there (record { before = record { before = s; source-is-intact = w.2 }; if2 = w.3 }) in
-    rw (standing-there s) (k, w.5 ∙ w.4.ensures))
-    (λ w. rw w.0.left (refl, w.1))
-    c.if-held.branch
+added c = elim c.if-held.branch [
+  | then-held+else-source_is_intact-eqfalse w ↦
+      let s : After-source-source = record { before = record { before = c.before; if-held = w.if-held }; source-source = w.source-source } in
+      let k : source_intact (some w.source-source.result) ≡ true = tested _ _ w.source_is_intact.ensures false w.if-source_is_intact-eqfalse.false in
+      rw (standing-there s) (k, w.totals-is ∙ w.with_source-totals.ensures)
+  | else-held w ↦ rw w.if-held.false (refl, w.totals-is)
+]
 
 pub loop-i-init : goal.loop-i-init
 unfolding all_intact

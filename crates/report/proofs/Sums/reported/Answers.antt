@@ -64,20 +64,15 @@ module _ (s : Sums) where
             ) (cc (ep, el, eb))
 
 pub returns-then-project-gt-GRAMS_LIMIT : goal.returns-then-project-gt-GRAMS_LIMIT
-returns-then-project-gt-GRAMS_LIMIT c =
-    let both = over-project c.args.self c.if-project-gt-GRAMS_LIMIT.true in
-    record { None = both.0; None = both.1 }
+returns-then-project-gt-GRAMS_LIMIT c = over-project c.args.self c.if-project-gt-GRAMS_LIMIT.true
 
 pub returns-then-leakage-gt-GRAMS_LIMIT : goal.returns-then-leakage-gt-GRAMS_LIMIT
-returns-then-leakage-gt-GRAMS_LIMIT c =
-    let both = over-leakage c.args.self c.if-project-gt-GRAMS_LIMIT.false c.if-leakage-gt-GRAMS_LIMIT.true in
-    record { None = both.0; None = both.1 }
+returns-then-leakage-gt-GRAMS_LIMIT c = over-leakage c.args.self c.if-project-gt-GRAMS_LIMIT.false c.if-leakage-gt-GRAMS_LIMIT.true
 
 pub returns-then-baseline-gt-GRAMS_LIMIT : goal.returns-then-baseline-gt-GRAMS_LIMIT
 returns-then-baseline-gt-GRAMS_LIMIT c =
-    let both = over-baseline c.args.self c.if-project-gt-GRAMS_LIMIT.false
-    c.if-leakage-gt-GRAMS_LIMIT.false c.if-baseline-gt-GRAMS_LIMIT.true in
-    record { None = both.0; None = both.1 }
+    over-baseline c.args.self c.if-project-gt-GRAMS_LIMIT.false
+    c.if-leakage-gt-GRAMS_LIMIT.false c.if-baseline-gt-GRAMS_LIMIT.true
 
 pub reduction-requires : goal.reduction-requires
 reduction-requires c =
@@ -89,8 +84,7 @@ reduction-requires c =
 
 pub returns : goal.returns
 returns c =
-    let both = within c.args.self
+    within c.args.self
     c.if-project-gt-GRAMS_LIMIT.false c.if-leakage-gt-GRAMS_LIMIT.false
     c.if-baseline-gt-GRAMS_LIMIT.false c.reported-project.ensures c.reported-leakage.ensures
-    c.reported-baseline.ensures c.reduction.ensures in
-    record { None = both.0; None = both.1 }
+    c.reported-baseline.ensures c.reduction.ensures
