@@ -10,48 +10,37 @@ use Rattle.forms.proofs.read_other.Goals as goal
 pub returns-in-Match : goal.returns-in-Match
 unfolding others call_of fitted line_of plain_line
 returns-in-Match c =
-    rw (c.plain_line.ensures, c.byte_field.ensures) (
-      sym
-          (ap (map_read fitted_call)
-          (row_read _ _ _ _ _ c.read_template.ensures _ _ c.in-Match.is)),
-      refl,
-    )
-
-left-1 : (p : goal.In_default) → Left others 1 p.args.line.now
-unfolding others
-left-1 p = row-passed _ _ _ _ _ p.read_template.ensures p.in_default.is
+    record {
+      call = rw (c.plain_line.ensures, c.byte_field.ensures) (sym (ap (map_read fitted_call) (row_read _ _ _ _ _ c.read_template.ensures _ _ c.in-Match.is)));
+      parts = rw (c.plain_line.ensures, c.byte_field.ensures) refl;
+    }
 
 pub returns-in-Match-read_template : goal.returns-in-Match-read_template
 unfolding others call_of fitted line_of plain_line
 returns-in-Match-read_template c =
-    rw (c.plain_line-in-Match-read_template.ensures, c.byte_field-in-Match-read_template.ensures) (
-      sym
-          (ap (map_read fitted_call)
-          (left-1 c.before.before.before.before.before.before.before
-          ∙ row_read _ _ _ _ _ c.read_template-2.ensures _ _ c.in-Match-read_template.is)),
-      refl,
-    )
-
-left-2 : (p : goal.In_default-read_template) → Left others 2 p.args.line.now
-unfolding others
-left-2 p = left-1 p.before.before.before.before ∙ row-passed _ _ _ _ _ p.read_template-2.ensures p.in_default-read_template.is
+    let left-1 : Left others 1 c.args.line.now = row-passed _ _ _ _ _ c.read_template.ensures c.in_default.is in
+    record {
+      call = rw (c.plain_line-in-Match-read_template.ensures, c.byte_field-in-Match-read_template.ensures) (sym (ap (map_read fitted_call) (left-1 ∙ row_read _ _ _ _ _ c.read_template-2.ensures _ _ c.in-Match-read_template.is)));
+      parts = rw (c.plain_line-in-Match-read_template.ensures, c.byte_field-in-Match-read_template.ensures) refl;
+    }
 
 pub returns-in-Match-read_template-2 : goal.returns-in-Match-read_template-2
 unfolding others call_of fitted line_of plain_line
 returns-in-Match-read_template-2 c =
-    rw c.plain_line-in-Match-read_template-2.ensures (
-      sym
-          (ap (map_read fitted_call)
-          (left-2 c.before.before.before.before.before.before
-          ∙ row_read _ _ _ _ _ c.read_template-3.ensures _ _ c.in-Match-read_template-2.is)),
-      refl,
-    )
+    let left-1 : Left others 1 c.args.line.now = row-passed _ _ _ _ _ c.read_template.ensures c.in_default.is in
+    let left-2 : Left others 2 c.args.line.now = left-1 ∙ row-passed _ _ _ _ _ c.read_template-2.ensures c.in_default-read_template.is in
+    record {
+      call = rw c.plain_line-in-Match-read_template-2.ensures (sym (ap (map_read fitted_call) (left-2 ∙ row_read _ _ _ _ _ c.read_template-3.ensures _ _ c.in-Match-read_template-2.is)));
+      parts = rw c.plain_line-in-Match-read_template-2.ensures refl;
+    }
 
 pub returns : goal.returns
 unfolding others
 returns c =
+    let left-1 : Left others 1 c.args.line.now = row-passed _ _ _ _ _ c.read_template.ensures c.in_default.is in
+    let left-2 : Left others 2 c.args.line.now = left-1 ∙ row-passed _ _ _ _ _ c.read_template-2.ensures c.in_default-read_template.is in
     let both = nothing_read _ _ c.no_form.ensures
-    (left-2 c.before.before.before.before.before
+    (left-2
     ∙ row-passed _ _ _ _ _ c.read_template-3.ensures c.in_default-read_template-2.is
     ∙ no_row _) in
     record { call = both.0; parts = both.1 }

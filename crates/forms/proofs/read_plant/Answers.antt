@@ -19,16 +19,19 @@ pub returns : goal.returns
 unfolding plant_in call_of fitted line_of plain_line
 returns c =
     let s = c.args.line.now in
-    record { call = rw (
+    record {
+      call = rw (
         template-read _ s 0 c.read_template.ensures c.in-Match.is,
         c.byte_field.ensures,
         c.word_field.ensures,
         c.byte_field-2.ensures,
         c.byte_field-3.ensures,
         c.read_fuels-fuels.ensures.lines,
-        c.read_fuels-fuels.ensures.count.0,
-        c.read_fuels-fuels.ensures.count.1,
+        c.read_fuels-fuels.ensures.count,
+        c.read_fuels-fuels.ensures.rest,
         c.read_heat-heat.ensures.heat,
         c.read_heat-heat.ensures.rest,
         map-four fitted_line no_line _ refl,
-      ); parts = rw c.plain_line-empty.ensures }
+      );
+      parts = rw c.plain_line-empty.ensures;
+    }

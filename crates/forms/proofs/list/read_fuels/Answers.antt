@@ -22,7 +22,7 @@ returns-in_default c =
     let both = left-none reading.fuels fitted_line no_line _ l.fuels.count l.fuels.lines _ _
     (sym (ap (fuel_meaning s) c.in_default.is) ∙ c.read_fuel.ensures)
     l.invariant.2 in
-    record { lines = both.0; count = both.1; rest = both.2 }
+    record { lines = both.0; count = both.1.0; rest = both.1.1 }
 
 pub with_fuel-fuels-requires : goal.with_fuel-fuels-requires
 with_fuel-fuels-requires c = omega arith
@@ -33,11 +33,10 @@ loop-turn-smaller c = omega arith
 pub loop-turn-preserved : goal.loop-turn-preserved
 loop-turn-preserved c =
     let s = c.args.line.now in
-    let l = c.loop-turn in
-    (
+    let l = c.loop-turn in (
       omega arith,
-      c.with_fuel-fuels.ensures.count.0 ∙ ap (λ (n : ℕ). n + 1) l.invariant.1,
-      rw (c.with_fuel-fuels.ensures.lines, c.with_fuel-fuels.ensures.count.0, c.with_fuel-fuels.ensures.count.1)
+      c.with_fuel-fuels.ensures.count ∙ ap (λ (n : ℕ). n + 1) l.invariant.1,
+      rw (c.with_fuel-fuels.ensures.lines, c.with_fuel-fuels.ensures.count, c.with_fuel-fuels.ensures.next)
           (left_one reading.fuels fitted_line no_line _ l.fuels.count l.fuels.lines _ _ s _ _ c.in-Found.next (omega arith)
           (sym (ap (fuel_meaning s) c.in-Found.is) ∙ c.read_fuel.ensures)
           l.invariant.2),
@@ -47,4 +46,4 @@ pub returns : goal.returns
 returns c =
     let l = c.loop-turn in
     let both = left_end reading.fuels fitted_line no_line _ l.fuels.count l.fuels.lines _ _ (omega arith) l.invariant.2 in
-    record { lines = both.0; count = both.1; rest = both.2 }
+    record { lines = both.0; count = both.1.0; rest = both.1.1 }

@@ -1,17 +1,11 @@
 -- `forms::part::read_fuel` meets its contract: what is left of the table after the rows that are not read reads what the whole reads. Assumes nothing.
 use mathlib.Core.Path.{sym, ap, ◌∙◌}
-use mathlib.Core.List.{List}
-use Prim.Native.Nat.{ℕ}
 use lib.ListN.{drop}
 use Rattle.text.specs.Template.{map_read}
 use Rattle.forms.specs.Reading.{fuels}
 use Rattle.forms.specs.Calls.{fitted_line}
 use Rattle.forms.proofs.Rows.{Left, row-passed, row_read, no_row}
 use Rattle.forms.proofs.part.read_fuel.Goals as goal
-
--- The text at the place.
-abbrev text : goal.Start → List ℕ
-text p = drop p.args.at p.args.line.now
 
 pub returns-in-Match : goal.returns-in-Match
 unfolding fuels
@@ -22,39 +16,36 @@ returns-in-Match c =
     (row_read _ _ _ _ _ c.read_template.ensures _ _
     c.in-Match.is)))
 
-left-1 : (p : goal.In_default) → Left fuels 1 (text p.before.before.before.before.before)
-unfolding fuels
-left-1 p = row-passed _ _ _ _ _ p.read_template.ensures p.in_default.is
-
 pub returns-in-Match-read_template : goal.returns-in-Match-read_template
 unfolding fuels
 returns-in-Match-read_template c =
+    let left-1 : Left fuels 1 (drop c.args.at c.args.line.now) = row-passed _ _ _ _ _ c.read_template.ensures c.in_default.is in
     rw (c.word_field-quantity-in-Match-read_template.ensures, c.word_field-carbon.ensures)
     (sym
     (ap (map_read fitted_line)
-    (left-1 c.before.before.before.before.before.before.before
+    (left-1
     ∙ row_read _ _ _ _ _ c.read_template-2.ensures _ _
     c.in-Match-read_template.is)))
-
-left-2 : (p : goal.In_default-read_template) → Left fuels 2 (text p.before.before.before.before.before.before.before.before.before)
-unfolding fuels
-left-2 p = left-1 p.before.before.before.before ∙ row-passed _ _ _ _ _ p.read_template-2.ensures p.in_default-read_template.is
 
 pub returns-in-Match-read_template-2 : goal.returns-in-Match-read_template-2
 unfolding fuels
 returns-in-Match-read_template-2 c =
+    let left-1 : Left fuels 1 (drop c.args.at c.args.line.now) = row-passed _ _ _ _ _ c.read_template.ensures c.in_default.is in
+    let left-2 : Left fuels 2 (drop c.args.at c.args.line.now) = left-1 ∙ row-passed _ _ _ _ _ c.read_template-2.ensures c.in_default-read_template.is in
     rw (c.word_field-quantity-in-Match-read_template-2.ensures, c.word_field-density.ensures, c.word_field-carbon-in-Match-read_template-2.ensures)
     (sym
     (ap (map_read fitted_line)
-    (left-2 c.before.before.before.before.before.before.before.before
+    (left-2
     ∙ row_read _ _ _ _ _ c.read_template-3.ensures _ _
     c.in-Match-read_template-2.is)))
 
 pub returns : goal.returns
 unfolding fuels
 returns c =
+    let left-1 : Left fuels 1 (drop c.args.at c.args.line.now) = row-passed _ _ _ _ _ c.read_template.ensures c.in_default.is in
+    let left-2 : Left fuels 2 (drop c.args.at c.args.line.now) = left-1 ∙ row-passed _ _ _ _ _ c.read_template-2.ensures c.in_default-read_template.is in
     sym
     (ap (map_read fitted_line)
-    (left-2 c.before.before.before.before
+    (left-2
     ∙ row-passed _ _ _ _ _ c.read_template-3.ensures c.in_default-read_template-2.is
     ∙ no_row _))
