@@ -1,6 +1,6 @@
 -- `forms::list::read_fuels` meets its contract: what is left gives what the whole gives. Assumes nothing.
 use mathlib.Core.Path.{refl, sym, ap, ◌∙◌}
-use Prim.Native.Nat.{ℕ, ◌+◌, ◌-◌}
+use Prim.Native.Nat.{ℕ, ◌+◌}
 use native.Mathlib.Nat.{sub-zero}
 use native.Mathlib.Omega.{arith}
 use Rattle.fuel.specs.Fuel.{no_line}

@@ -1,7 +1,6 @@
 -- `forms::list::read_meters` meets its contract: what is left gives what the whole gives. Assumes nothing.
 use borrow.Author.Tests.{lt-ltb, le-ltb}
 use mathlib.Core.Path.{◌≡◌, sym, ap, ◌∙◌}
-use Prim.Native.Nat.{◌-◌}
 use native.Mathlib.Nat.{sub-zero}
 use native.Mathlib.Omega.{arith}
 use Rattle.metering.specs.Energy.{no_meter}
