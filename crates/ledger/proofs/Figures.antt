@@ -11,7 +11,6 @@ use Rattle.rounding.specs.Ratio.{Ratio, sumᵣ, Conservative}
 use Rattle.rounding.specs.declared.Direction.{Direction}
 use Rattle.rounding.specs.Lists.{All}
 use Rattle.rounding.proofs.Ratio.{Within, all_then, sum_over, conservative-within, conservative-distance}
-use Rattle.metering.specs.Reading.{limit}
 use Rattle.metering.specs.Energy.{exact_energy}
 use Rattle.metering.proofs.Readings.{unit-above-zero}
 use Rattle.rounding.specs.Outcome.{Outcome, refused, given}

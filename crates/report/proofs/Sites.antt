@@ -1,7 +1,7 @@
 -- A site's rounded milligrams stand on the safe side of the exact ones, off by at most 5 mg for each of eight plants, and for baseline by J ÷ 1,000 mg
 -- more for each with heat. Assumes nothing.
 use Prim.Native.Nat.{ℕ, ◌+◌, ◌*◌, ◌<◌, ◌≤◌}
-use mathlib.Core.Path.{◌≡◌, refl, sym, subst, ◌∙◌}
+use mathlib.Core.Path.{◌≡◌, refl, subst}
 use mathlib.Core.List.{List, [], ◌∷◌, map}
 use mathlib.Core.Option
 use mathlib.Core.Option.{Option, none, some, some-injective}
@@ -13,7 +13,6 @@ use Rattle.rounding.specs.declared.Direction.{Direction}
 use Rattle.rounding.specs.declared.Direction.TheVariants.{Up, Down}
 use Rattle.rounding.specs.Lists.{All}
 use Rattle.rounding.proofs.Ratio.{Within, all_then, all_map, within-widen, sum-within-per, sum_over, sum-unsigned}
-use Rattle.emissions.specs.Factor.{Site}
 use Rattle.emissions.proofs.Factors.{SiteSound, heated_for}
 use Rattle.records.specs.Heat.{fuel_energy}
 use Rattle.records.specs.Judging.{lines_of}

@@ -35,7 +35,6 @@ use Rattle.report.specs.declared.Totals.{Totals}
 use Rattle.report.specs.declared.TotalsSummed.{TotalsSummed}
 use Rattle.report.specs.declared.TotalsSummed.TheVariants as totalsCase
 use Rattle.report.specs.declared.SiteSums.{SiteSums}
-use Rattle.report.specs.declared.LineSums.{LineSums}
 use Rattle.report.specs.declared.LinesSummed.{LinesSummed}
 use Rattle.report.specs.declared.LinesSummed.TheVariants as linesCase
 use Rattle.report.specs.declared.Electricity.{Electricity}
@@ -50,8 +49,6 @@ use Rattle.report.specs.declared.SideSum.{SideSum}
 use Rattle.report.specs.declared.Sums.{Sums}
 use Rattle.report.specs.declared.Walked.{Walked}
 use Rattle.report.specs.declared.Walked.TheVariants as walked
-use Rattle.report.specs.declared.SideReport.{SideReport}
-use Rattle.report.specs.declared.Report.{Report}
 
 -- ---- bounds that follow from the limits of entries
 

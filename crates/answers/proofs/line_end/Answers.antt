@@ -1,6 +1,5 @@
 -- `answers::line_end` meets its contract: what is left of the line is the line's length less what was passed. Assumes nothing.
 use mathlib.Core.Path.{ap}
-use Prim.Native.Nat.{◌-◌}
 use native.Mathlib.Omega.{arith}
 use lib.ListN.{length}
 use Rattle.answers.proofs.Lines.{line-here, line-more, line-none}

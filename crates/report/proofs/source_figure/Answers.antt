@@ -4,13 +4,10 @@ use mathlib.Core.Option.{some, some-injective}
 use Prim.Native.Nat.{ℕ, ◌≤◌}
 use Rattle.metering.specs.Reading.{limit}
 use Rattle.rounding.specs.Outcome.{refused}
-use Rattle.emissions.specs.Factor.{factor_limit, chosen, factor_in}
-use Rattle.emissions.specs.Loss.{loss_of}
+use Rattle.emissions.specs.Factor.{factor_limit}
 use Rattle.emissions.specs.Answers.{factor_meaning, factor_refusal, loss_meaning, loss_refusal, emissions_meaning}
 use Rattle.emissions.specs.Figure.{energy_with_losses, grams_of, emissions_of}
 use Rattle.rounding.specs.declared.Direction.{Direction}
-use Rattle.emissions.specs.declared.FactorJudged.{FactorJudged}
-use Rattle.emissions.specs.declared.LossJudged.{LossJudged}
 use Rattle.emissions.specs.declared.Emissions.{Emissions}
 use Rattle.emissions.specs.declared.EmissionsJudged.{EmissionsJudged}
 use Rattle.emissions.proofs.Figures.{emissions-within}

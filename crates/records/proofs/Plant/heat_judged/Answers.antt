@@ -5,17 +5,16 @@ use borrow.Author.Tests.{le-leb, lt-leb, lt-ltb, le-ltb}
 use mathlib.Core.Path.{◌≡◌, refl, sym, ap, ◌∙◌}
 use mathlib.Core.Bool.{Bool, true, false, ◌&&◌}
 use mathlib.Core.Option.{some}
-use Prim.Native.Nat.{◌+◌, ◌-◌, ◌≤◌, ◌<◌, zero-le}
+use Prim.Native.Nat.{◌+◌, ◌≤◌, ◌<◌, zero-le}
 use native.Mathlib.Nat.{le_of_eq, le_trans, pos_of_ne-zero}
 use native.Mathlib.Omega.{arith}
-use lib.ListN.{length, get_or, take, drop, length-map}
+use lib.ListN.{length, get_or, take, drop}
 use Rattle.fuel.specs.Fuel.{no_line, is_energy, line_energy, states_energy, stated_energy, energy_meaning, all_lines}
 use Rattle.fuel.specs.declared.FuelLine.{FuelLine}
 use Rattle.fuel.proofs.Fuel.{line-energy-bound, energy-stated, energy-not-stated}
 use Rattle.rounding.proofs.Tests.{and_both}
 use Rattle.records.specs.Heat.{fuel_energy}
 use Rattle.records.specs.Judging.{lines_of}
-use Rattle.records.specs.declared.Plant.{Plant}
 use Rattle.records.proofs.Lines.{next-line, no_line_lem, SumBefore, sum-start, sum-turn, sum-end}
 use Rattle.records.proofs.Plant.heat_judged.Goals as goal
 use Rattle.records.proofs.Plant.heat_judged.Goals.{Else-self-gt-LINES_LIMIT, In-loop-i, In-Stated, After-loop-i}
