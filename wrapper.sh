@@ -1,7 +1,7 @@
 # What ./tally and ./panel share. Each sets root, the folder that it stands in, and name, its program's name.
 #
-# Builds the program where it is missing or older than its sources. rt leaves target/stamp/NAME once the
-# program is proved and its run wrote what it must, and takes it away where a check fails.
+# Builds the program where it is missing or older than its sources. target/bin/NAME and target/stamp/NAME are
+# left once the program is proved and its run wrote what it must, and the stamp is taken away where a build fails.
 PATH="$PATH:/opt/rattle/bin"
 program=$root/target/bin/$name
 stamp=$root/target/stamp/$name
@@ -22,9 +22,10 @@ hint_typing() {
     [ ! -t 0 ] || hint "$1"
 }
 
+# What rt itself writes, in crates/NAME/out, is no source.
 is_built() {
-    [ -x "$program" ] && [ -f "$stamp" ] &&
-        [ -z "$(find "$root/crates.txt" "$root/crates" -newer "$stamp" | head -n 1)" ]
+    [ -x "$program" ] && [ -f "$stamp" ] && [ ! "$root/crates.txt" -nt "$stamp" ] &&
+        [ -z "$(find "$root/crates" -mindepth 2 -name out -prune -o -newer "$stamp" -print | head -n 1)" ]
 }
 
 # How many crates of the repository the program is made of, itself among them.
@@ -47,12 +48,26 @@ build() {
     if [ -x "$program" ]; then
         echo "$name: a file changed since the last check, or that check failed; checking again" >&2
     else
-        echo "$name: the first build proves $(crates) crates, printed one by one, in 3 to 8 minutes" >&2
+        echo "$name: the first build proves $(crates) crates, printed one by one, which takes some minutes" >&2
     fi
+    rm -f "$stamp"
     began=$(date +%s.%N)
-    (cd "$root" && rt check "$name") </dev/null >&2 || return 1
-    # What is edited while rt runs is newer than the build.
-    touch -d "@$began" "$stamp"
+    proved && keep "$began"
+}
+
+# Proves the program, builds it and runs it on its crate's file stdin. It must write the file stdout.
+proved() {
+    folder=$root/crates/$name
+    ended=$({ { (cd "$folder" && rt run <stdin); echo $? >&5; } | cmp - "$folder/stdout" >&2; } 5>&1) || return 1
+    [ "$ended" = 0 ]
+}
+
+# keep BEGAN: keeps the program that rt built since then, in one step, so that one that runs is not changed.
+# What is edited while rt runs is newer than the build.
+keep() {
+    mkdir -p "$root/target/bin" "$root/target/stamp" &&
+        cp "$root/crates/$name/out/$name" "$program.new" && mv -f "$program.new" "$program" &&
+        touch -d "@$1" "$stamp"
 }
 
 # prepare USAGE ARGUMENTS..: ends the wrapper where it was given arguments, where standard input or output is

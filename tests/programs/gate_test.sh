@@ -36,6 +36,15 @@ ends 'killed, with nothing failed' adds 5 1 'echo 5 passed, 0 failed; kill -9 $$
 ends 'no line' adds 0 1 'true'
 ends 'no line of its own' adds 0 1 'echo all 5 passed, 0 failed'
 ends 'no such command' adds 0 1 'tests/no_such_command'
+ends 'words in brackets behind the line' adds 5 0 'echo "5 passed, 0 failed (in all)"'
+ends 'a part of the crates alone' adds 0 1 'echo "5 passed, 0 failed (text and the crates below alone: not the gate)"'
+ends 'no bad edit' adds 5 0 'echo "rt: ok; handles allowed: none; must-fail edits: 3 refused; done"; echo 5 passed, 0 failed'
+ends 'bad edits' adds 5 2 'echo "rt: ok; handles allowed: none; must-fail edits: 3 refused, 2 bad; done"; echo 5 passed, 0 failed'
+ends 'bad edits, and others refused by a limit' adds 5 12 \
+    'echo "rt: ok; handles allowed: none; must-fail edits: 3 refused, 1 of them only by a limit, 12 bad; done"; echo 5 passed, 0 failed'
+ends 'bad edits beside what failed' adds 3 4 \
+    'echo "rt: ok; handles allowed: none; must-fail edits: 3 refused, 2 bad; done"; echo 3 passed, 2 failed; exit 1'
+ends 'bad edits alone' adds 0 3 'echo "rt: ok; handles allowed: none; must-fail edits: 0 refused, 2 bad; done"; echo 0 passed, 0 failed'
 ends 'an assert vanishes with python3 -O' no_assert
 
 echo "$right passed, $wrong failed"

@@ -36,24 +36,28 @@ cat "$room/too_large" "$room/too_large" >"$room/longer"
 sed 's/^/refused 14/' "$room/longer" >"$room/refused_longer"
 yes '(report)' | head -n 7000 >"$room/reports"
 echo 'project 0 0 0' >"$room/first_line"
-# Copies of the wrappers: beside programs that end badly, and without programs, beside an rt that fails and
-# one that leaves a program which prints its input.
+# Copies of the wrappers: beside programs that end badly, and without programs, beside an rt that fails, one
+# that leaves a program which prints its input, and one whose run of it writes what its crate does not say.
 for copy in bad unbuilt built; do
-    mkdir -p "$room/$copy/crates" && cp tally panel wrapper.sh "$room/$copy" && : >"$room/$copy/crates.txt"
+    for name in tally panel; do
+        mkdir -p "$room/$copy/crates/$name" && : >"$room/$copy/crates/$name/stdin" && : >"$room/$copy/crates/$name/stdout"
+    done
+    cp tally panel wrapper.sh "$room/$copy" && : >"$room/$copy/crates.txt"
 done
 mkdir -p "$room/bad/target/bin" "$room/bad/target/stamp"
 for name in tally panel; do
     printf '#!/bin/sh\ncat; exit 3\n' >"$room/bad/target/bin/$name" && chmod +x "$room/bad/target/bin/$name"
     touch "$room/bad/target/stamp/$name"
 done
-mkdir "$room/fails" "$room/makes"
+mkdir "$room/fails" "$room/makes" "$room/writes"
 printf '#!/bin/sh\nexit 1\n' >"$room/fails/rt"
 cat >"$room/makes/rt" <<'END'
 #!/bin/sh
-mkdir -p target/bin target/stamp
-printf '#!/bin/sh\ncat\n' >"target/bin/$2" && chmod +x "target/bin/$2" && : >"target/stamp/$2"
+program=out/$(basename "$PWD")
+mkdir -p out && printf '#!/bin/sh\ncat\n' >"$program" && chmod +x "$program"
 END
-chmod +x "$room/fails/rt" "$room/makes/rt"
+sed '$a echo something' "$room/makes/rt" >"$room/writes/rt"
+chmod +x "$room/fails/rt" "$room/makes/rt" "$room/writes/rt"
 # Writes a line, and the next once the first is answered. At its end the program's input ends too.
 cat >"$room/line_by_line" <<'END'
 mkfifo "$room/lines" "$room/answers" || exit 1
@@ -83,6 +87,8 @@ for name in tally panel; do
         "\"\$room/bad/$name\" <examples/site.txt"
     check "$name, a build that fails" 1 $nothing 'not built' \
         "PATH=\$room/fails:\$PATH \"\$room/unbuilt/$name\" <examples/site.txt"
+    check "$name, a build whose run writes something else" 1 $nothing 'not built' \
+        "PATH=\$room/writes:\$PATH \"\$room/unbuilt/$name\" <examples/site.txt"
     check "$name, a build before the run" 0 examples/site.txt 'the first build' \
         "PATH=\$room/makes:\$PATH \"\$room/built/$name\" <examples/site.txt"
     check "$name, a reader that ends early" 0 "$room/first_line" '' \

@@ -152,7 +152,10 @@ class Tests:
         """A copy of the wrappers without their programs, beside a toolchain of this script."""
         folder = self.room / name
         (folder / 'bin').mkdir(parents=True)
-        (folder / 'crates').mkdir()
+        for program in ('tally', 'panel'):
+            (folder / 'crates' / program).mkdir(parents=True)
+            for file in ('stdin', 'stdout'):
+                (folder / 'crates' / program / file).touch()
         (folder / 'temporary').mkdir()
         for file in ('tally', 'panel', 'wrapper.sh', 'crates.txt'):
             shutil.copy(ROOT / file, folder)
@@ -162,8 +165,8 @@ class Tests:
                         'TMPDIR': str(folder / 'temporary')}
 
     def build(self):
-        makes = ('mkdir -p target/bin target/stamp; printf "#!/bin/sh\\n" >"target/bin/$2";'
-                 ' chmod +x "target/bin/$2"; : >"target/stamp/$2"')
+        makes = ('program=out/$(basename "$PWD"); mkdir -p out; printf "#!/bin/sh\\n" >"$program";'
+                 ' chmod +x "$program"')
         folder, environment = self.copied('built', makes)
         for program, count in (('tally', 11), ('panel', 11)):
             ended = run([folder / program], terminal=False, env=environment)
@@ -182,7 +185,7 @@ class Tests:
 
     def interrupted(self):
         """Ctrl-C while it is built."""
-        folder, environment = self.copied('interrupted', ': >began; sleep 60')
+        folder, environment = self.copied('interrupted', ': >../../began; sleep 60')
         process = subprocess.Popen([folder / 'tally'], stdin=subprocess.DEVNULL, env=environment,
                                    stdout=subprocess.DEVNULL, stderr=subprocess.DEVNULL,
                                    start_new_session=True, preexec_fn=hear_ctrl_c)
