@@ -2,9 +2,10 @@
 
     python3 -m tests.documents.form    README.md, docs/, box/README.md and tests/wrong/README.md
 
-Each document names its reader in the first line below its title and has at most so many lines. A
-paragraph, and an item of a list, has at most five lines of at most 120 characters, and a cell of a
-table at most 200 characters. Blocks of code have any length.
+Each document names its reader in the first line below its title and has at most so many lines.
+A paragraph, and an item of a list, has at most five lines of at most 120 characters, and a cell of
+a table at most 200 characters. Blocks of code have any length. Above the title of docs/PORT.md
+stand the names of commits.
 
 Prints what is wrong, and last `N passed, M failed`.
 """
@@ -18,13 +19,14 @@ ROOT = Path(__file__).resolve().parents[2]
 # The most lines of each, and of each note on a landing.
 LINES = {'README.md': 95, 'docs/MANUAL.md': 240, 'docs/ANSWER.md': 130, 'docs/PROVED.md': 300,
          'docs/CODE.md': 90, 'docs/DECISIONS.md': 265, 'docs/MEASURED.md': 145,
-         'docs/LANDINGS.md': 40, 'box/README.md': 135, 'tests/wrong/README.md': 110}
+         'docs/LANDINGS.md': 40, 'docs/PORT.md': 150, 'box/README.md': 135, 'tests/wrong/README.md': 110}
 NOTE_LINES = 25
 NOTES = 'docs/landings/'
 
 WIDTH = 120
 PARAGRAPH_LINES = 5
 CELL = 200
+COMMIT = re.compile(r'[0-9a-f]{40}')
 READER = re.compile(r'For \w')  # as "For site managers: .."
 ITEM = re.compile(r'\s*(?:[-*]|[0-9]+\.) ')
 CELLS = re.compile(r'(?<!\\)\|')
@@ -65,9 +67,10 @@ def wrong_in(text: str, most: int) -> list[str]:
     wrong = []
     if len(lines) > most:
         wrong.append(f'{len(lines)}: lines, of at most {most}')
-    if not lines or not lines[0].startswith('# '):
+    below = [line for line in lines if line.strip() and not COMMIT.fullmatch(line)]
+    if not below or not below[0].startswith('# '):
         wrong.append('1: no title')
-    if not READER.match(next((line for line in lines[1:] if line.strip()), '')):
+    if not READER.match(next(iter(below[1:]), '')):
         wrong.append('2: no reader')
     return wrong + [each for block in blocks(text) for each in too_long(block)]
 
