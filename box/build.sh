@@ -13,7 +13,7 @@ gcc_c() { gcc -ffreestanding $sections $c -fno-tree-loop-distribute-patterns -c 
 
 # As the toolchain calls its clang, but for the processor and the level.
 clang() {
-    "$kit/on/x86_64/toolchain/bin/clang" --target=thumbv6m-none-eabi -mcpu=cortex-m0 \
+    "$kit/toolchain/bin/clang" --target=thumbv6m-none-eabi -mcpu=cortex-m0 \
         -mfloat-abi=soft -ffreestanding $sections --no-default-config -Werror -c "$@"
 }
 
