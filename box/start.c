@@ -57,6 +57,9 @@ int64_t write(int32_t to, const uint8_t *bytes, uint64_t size) {
     return to == 1 ? (int64_t)(count - transfer(WRITE, output, bytes, count)) : -1;
 }
 
+// What the program asks for where one of these fails, and then passes over: EIO.
+int32_t rattle_errno(void) { return 5; }
+
 // ---- what is said on standard error
 
 static void say(const char *text) {
