@@ -3,7 +3,7 @@
     python3 -m tests.comparison.vectors
               writes crates/vectors/stdin and stdout
     --check   compares these two files with what it would write, byte for byte, and counts
-              them; that the program answers stdin by stdout is for `rt check` to see, which
+              them; that the program answers stdin by stdout is for `rt ci` to see, which
               runs it
 
 A vector is a line of stdin and its answer in stdout, a line or more. Its fields
