@@ -4,24 +4,22 @@
 use crate::lines::{direction, field, field_fuel_line, read_line, write_number, write_refused};
 use fuel::Milligrams;
 use rounding::Direction;
+use std::io;
+use std::io::Read;
 
-pub fn answer_line() -> bool {
+pub fn answer_line(input: &mut impl Read, rt: &impl Print) -> io::Result<bool> {
     let mut line = [0u8; 85];
-    if read_line(&mut line) {
-        let both = field_fuel_line(&line, 1).milligrams();
-        let rounded = match direction(field(&line, 0)) {
-            Direction::Up => both.up,
-            Direction::Down => both.down,
-        };
-        match rounded {
-            Milligrams::Refused => {
-                write_refused(2);
-            }
-            Milligrams::Rounded(milligrams) => {
-                write_number(milligrams);
-            }
-        }
-        return true;
+    if !read_line(input, &mut line)? {
+        return Ok(false);
     }
-    false
+    let both = field_fuel_line(&line, 1).milligrams();
+    let rounded = match direction(field(&line, 0)) {
+        Direction::Up => both.up,
+        Direction::Down => both.down,
+    };
+    match rounded {
+        Milligrams::Refused => write_refused(rt, 2)?,
+        Milligrams::Rounded(milligrams) => write_number(rt, milligrams)?,
+    }
+    Ok(true)
 }

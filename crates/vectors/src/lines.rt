@@ -1,22 +1,27 @@
 // A line of 64-bit fields, each of 16 lower-case hexadecimal digits, with a space between two and a line feed
 // at the end. Every line of one kind has the same number of fields.
 use fuel::{FuelKind, FuelLine};
-use libc::{STDIN_FILENO, STDOUT_FILENO};
 use metering::{Interval, Meter, Registers, Sign};
 use rounding::Direction;
+use std::io;
+use std::io::{ErrorKind, Read};
 
 // Reads as many bytes of a line as the slice has, or answers that there are not so many.
-pub fn read_line(line: &mut [u8]) -> bool {
-    io::read_full(STDIN_FILENO, line) == line.len()
+pub fn read_line(input: &mut impl Read, line: &mut [u8]) -> io::Result<bool> {
+    match input.read_exact(line) {
+        Ok(()) => Ok(true),
+        Err(e) if e.kind() == ErrorKind::UnexpectedEof => Ok(false),
+        Err(e) => Err(e),
+    }
 }
 
 // The first field of the next line, or a number that is no kind where there is no line.
-pub fn read_kind() -> u64 {
+pub fn read_kind(input: &mut impl Read) -> io::Result<u64> {
     let mut first = [0u8; 17];
-    if read_line(&mut first) {
-        return field(&first, 0);
+    if read_line(input, &mut first)? {
+        return Ok(field(&first, 0));
     }
-    u64::MAX
+    Ok(u64::MAX)
 }
 
 // The value of a hexadecimal digit. The code of a letter is 64 and more, and its last four bits are 1 for
@@ -139,13 +144,11 @@ pub fn field_meters(line: &[u8], i: usize) -> [Meter; Meter::PLACES] {
 }
 
 // Writes a line with a number.
-pub fn write_number(number: u64) {
-    io::print_decimal(STDOUT_FILENO, number);
-    io::write_all(STDOUT_FILENO, b"\n");
+pub fn write_number(rt: &impl Print, number: u64) -> io::Result<()> {
+    println!(rt; "{number}")
 }
 
 // Writes a line with the number of a refusal.
-pub fn write_refused(number: u8) {
-    io::write_all(STDOUT_FILENO, b"refused ");
-    write_number(number as u64);
+pub fn write_refused(rt: &impl Print, number: u8) -> io::Result<()> {
+    println!(rt; "refused {number}")
 }

@@ -1,8 +1,9 @@
 // A quotient: its operation, a, b and d. The operations are a ÷ d up (0) and down (1), and a × b ÷ d up (2)
 // and down (3). Writes the quotient, or that it is too large.
 use crate::lines::{direction, field, field_u32, read_line, write_number};
-use libc::STDOUT_FILENO;
 use rounding::Quotient;
+use std::io;
+use std::io::Read;
 
 fn quotient(line: &[u8]) -> Quotient {
     let operation = field(line, 0);
@@ -16,18 +17,14 @@ fn quotient(line: &[u8]) -> Quotient {
     rounding::multiply_divide(direction(operation), a, b, d)
 }
 
-pub fn answer_line() -> bool {
+pub fn answer_line(input: &mut impl Read, rt: &impl Print) -> io::Result<bool> {
     let mut line = [0u8; 68];
-    if read_line(&mut line) {
-        match quotient(&line) {
-            Quotient::TooLarge => {
-                io::write_all(STDOUT_FILENO, b"too large\n");
-            }
-            Quotient::Fits(number) => {
-                write_number(number);
-            }
-        }
-        return true;
+    if !read_line(input, &mut line)? {
+        return Ok(false);
     }
-    false
+    match quotient(&line) {
+        Quotient::TooLarge => println!(rt; "too large")?,
+        Quotient::Fits(number) => write_number(rt, number)?,
+    }
+    Ok(true)
 }

@@ -5,6 +5,8 @@ use crate::lines::{
     direction, field, field_meters, field_u8, read_line, write_number, write_refused,
 };
 use metering::{EnergyJudged, MetersJudged};
+use std::io;
+use std::io::Read;
 
 fn judge(line: &[u8]) -> MetersJudged {
     let up_or_down = direction(field(line, 0));
@@ -12,27 +14,21 @@ fn judge(line: &[u8]) -> MetersJudged {
     metering::judge_meters(field_meters(line, 2), count, up_or_down)
 }
 
-fn answer(judged: MetersJudged) {
+fn answer(rt: &impl Print, judged: MetersJudged) -> io::Result<()> {
     match judged {
-        MetersJudged::Refused(number) => {
-            write_refused(number);
-        }
+        MetersJudged::Refused(number) => write_refused(rt, number),
         MetersJudged::Read(adds, takes) => match metering::settle_energy(adds, takes) {
-            EnergyJudged::Refused(number) => {
-                write_refused(number);
-            }
-            EnergyJudged::Accepted(energy) => {
-                write_number(energy);
-            }
+            EnergyJudged::Refused(number) => write_refused(rt, number),
+            EnergyJudged::Accepted(energy) => write_number(rt, energy),
         },
     }
 }
 
-pub fn answer_line() -> bool {
+pub fn answer_line(input: &mut impl Read, rt: &impl Print) -> io::Result<bool> {
     let mut line = [0u8; 374];
-    if read_line(&mut line) {
-        answer(judge(&line));
-        return true;
+    if !read_line(input, &mut line)? {
+        return Ok(false);
     }
-    false
+    answer(rt, judge(&line))?;
+    Ok(true)
 }
