@@ -1,11 +1,12 @@
 // Reads standard input to its end and prints the answers to its lines.
 #![tactic(auto)]
 
-ghost use Rattle.std.specs.Prelude.{◌≡◌, ◌+◌, ◌*◌, length};
+ghost use Rattle.std.specs.Prelude.{◌≡◌, ◌+◌, ◌*◌, ◌≤◌, length, IfOk};
 ghost use Rattle.answers.specs.Input.{input_limit, bytes_for_each};
 
 use answers::Written;
-use libc::{STDIN_FILENO, STDOUT_FILENO};
+use std::io;
+use std::io::Read;
 
 // One byte more than an input may have, so that a longer one is seen; and what the longest one needs.
 const INPUT_BYTES: usize = Written::INPUT_LIMIT + 1;
@@ -27,19 +28,35 @@ fn output_buffer() -> [u8; OUTPUT_BYTES]
     [0; OUTPUT_BYTES]
 }
 
-// Writes the first bytes of a buffer.
-fn print(buffer: &[u8], count: usize) {
-    if count <= buffer.len() {
-        io::write_all(STDOUT_FILENO, &buffer[0..count]);
+// Reads until the buffer is full or the input ends, and answers how many bytes were read.
+fn read_full(input: &mut impl Read, buffer: &mut [u8]) -> io::Result<usize>
+    ensures count_in_bounds { IfOk result (λ count. count ≤ length buffer.new) }
+{
+    let mut count: usize = 0;
+    while count < buffer.len() {
+        let read = input.read(&mut buffer[count..])?;
+        if read == 0 {
+            break;
+        }
+        count += read;
     }
+    Ok(count)
 }
 
-fn main() {
+// Writes the first bytes of a buffer.
+fn print(rt: &impl Print, buffer: &[u8], count: usize) -> io::Result<()> {
+    if count <= buffer.len() {
+        rt.write_all(&buffer[0..count])?;
+    }
+    Ok(())
+}
+
+fn main(rt: HostRuntime) -> io::Result<()> {
     let mut input = input_buffer();
-    let count = io::read_full(STDIN_FILENO, &mut input);
+    let count = read_full(&mut rt.stdin(), &mut input)?;
     let mut buffer = output_buffer();
     let Written::Bytes(length) = answers::answer_input(&input[..count], &mut buffer) else {
-        return;
+        return Ok(());
     };
-    print(&buffer, length);
+    print(&rt, &buffer, length)
 }
