@@ -14,8 +14,8 @@ ghost use Rattle.panel.specs.Steps.{Kept};
 use answers::line::{Reply, entry_reply, plant_after, put_reply, report_on, source_after};
 use forms::{Kind, Line};
 use ledger::Ledger;
-use libc::{STDIN_FILENO, STDOUT_FILENO};
 use records::{GridKept, Plant, PlantKept, Source, SourceKept};
+use std::io::Read;
 
 // One byte more than a line may have, so that a longer one is seen: the rest of it is read and not kept.
 const ROOM: usize = Line::LIMIT + 1;
@@ -30,15 +30,15 @@ enum LineRead {
     Line(usize),
 }
 
-// Reads to an LF or the end of the input, and keeps the first bytes, as many as there is room for.
-fn next_line(buffer: &mut [u8]) -> LineRead
+// Reads to an LF or the end of the input, and keeps the first bytes, as many as there is room for. A read that fails
+// counts as the end of the input.
+fn next_line(input: &mut impl Read, buffer: &mut [u8]) -> LineRead
     ensures { Kept buffer.new result }
 {
     let mut byte: [u8; 1] = [0; 1];
     let mut count: usize = 0;
-    let mut left = TURNS;
-    while left > 0 {
-        if libc::read(STDIN_FILENO, &mut byte) < 1 {
+    for _ in 0..TURNS {
+        if input.read(&mut byte).unwrap_or(0) == 0 {
             if count == 0 {
                 return LineRead::End;
             }
@@ -51,7 +51,6 @@ fn next_line(buffer: &mut [u8]) -> LineRead
             buffer[count] = byte[0];
             count += 1;
         }
-        left -= 1;
     }
     LineRead::Line(count)
 }
@@ -64,15 +63,15 @@ fn turn_meets(line: &[u8], before: Ledger, after: Ledger, reply: Reply)
     requires reply_value { reply_meaning reply ≡ line_reply before (line_call line.now) }
 {}
 
-// Writes the first bytes of a buffer, which are the text of a reply. The reply is for the prover alone.
-fn print(buffer: &[u8], count: usize, reply: Reply)
+// Writes the first bytes of a buffer, which are the text of a reply. The reply is for the prover alone. Where a write
+// fails, the rest of the answer is lost.
+fn print(rt: &impl Print, buffer: &[u8], count: usize, reply: Reply)
     requires count_in_bounds { count ≤ length buffer.now }
     requires buffer_value { take count buffer.now ≡ reply_text (reply_meaning reply) }
 {
     let mut at: usize = 0;
     while at < count {
-        let part = &buffer[at..count];
-        let written = io::count(libc::write(STDOUT_FILENO, part), part);
+        let written = rt.write_some(&buffer[at..count]).unwrap_or(0);
         if written == 0 {
             return;
         }
@@ -81,13 +80,12 @@ fn print(buffer: &[u8], count: usize, reply: Reply)
 }
 
 // Answers lines until the input ends.
-fn answer_lines(buffer: &mut [u8])
+fn answer_lines(input: &mut impl Read, rt: &impl Print, buffer: &mut [u8])
     requires { line_limit < length buffer.old }
 {
     let mut ledger = Ledger::new();
-    let mut left = TURNS;
-    while left > 0 {
-        let LineRead::Line(count) = next_line(buffer) else {
+    for _ in 0..TURNS {
+        let LineRead::Line(count) = next_line(input, buffer) else {
             return;
         };
         let before = ledger;
@@ -119,12 +117,11 @@ fn answer_lines(buffer: &mut [u8])
         };
         turn_meets(&buffer[0..count], before, ledger, reply);
         let end = put_reply(buffer, 0, reply);
-        print(buffer, end, reply);
-        left -= 1;
+        print(rt, buffer, end, reply);
     }
 }
 
-fn main() {
+fn main(rt: HostRuntime) {
     let mut buffer: [u8; ROOM] = [0; ROOM];
-    answer_lines(&mut buffer);
+    answer_lines(&mut rt.stdin(), &rt, &mut buffer);
 }
