@@ -15,13 +15,18 @@ use answers::line::{Reply, entry_reply, plant_after, put_reply, report_on, sourc
 use forms::{Kind, Line};
 use ledger::Ledger;
 use records::{GridKept, Plant, PlantKept, Source, SourceKept};
-use std::io::Read;
+use std::io;
+use std::io::{ErrorKind, Read};
+use std::process::ExitCode;
 
 // One byte more than a line may have, so that a longer one is seen: the rest of it is read and not kept.
 const ROOM: usize = Line::LIMIT + 1;
 
 // Every loop has to end: this is more bytes and more lines than anybody types.
 const TURNS: u64 = 0xffff_ffff_ffff_ffff;
+
+// The status of a program whose reader has ended, as a shell gives it.
+const READER_ENDED: u8 = 141;
 
 // What was read: how many bytes of a line are kept, or that the input has ended.
 #[derive(Clone, Copy)]
@@ -63,30 +68,31 @@ fn turn_meets(line: &[u8], before: Ledger, after: Ledger, reply: Reply)
     requires reply_value { reply_meaning reply ≡ line_reply before (line_call line.now) }
 {}
 
-// Writes the first bytes of a buffer, which are the text of a reply. The reply is for the prover alone. Where a write
-// fails, the rest of the answer is lost.
-fn print(rt: &impl Print, buffer: &[u8], count: usize, reply: Reply)
+// Writes the first bytes of a buffer, which are the text of a reply. The reply is for the prover alone.
+fn print(rt: &impl Print, buffer: &[u8], count: usize, reply: Reply) -> io::Result<()>
     requires count_in_bounds { count ≤ length buffer.now }
     requires buffer_value { take count buffer.now ≡ reply_text (reply_meaning reply) }
 {
     let mut at: usize = 0;
     while at < count {
-        let written = rt.write_some(&buffer[at..count]).unwrap_or(0);
+        let written = rt.write_some(&buffer[at..count])?;
         if written == 0 {
-            return;
+            break;
         }
         at += written;
     }
+    Ok(())
 }
 
-// Answers lines until the input ends.
-fn answer_lines(input: &mut impl Read, rt: &impl Print, buffer: &mut [u8])
+// Answers lines until the input ends, or until nobody reads the answers any more, which is an error. Where a write
+// fails otherwise, the rest of that answer is lost, and the next line is answered.
+fn answer_lines(input: &mut impl Read, rt: &impl Print, buffer: &mut [u8]) -> io::Result<()>
     requires { line_limit < length buffer.old }
 {
     let mut ledger = Ledger::new();
     for _ in 0..TURNS {
         let LineRead::Line(count) = next_line(input, buffer) else {
-            return;
+            return Ok(());
         };
         let before = ledger;
         let line = forms::read_line(&buffer[0..count]);
@@ -117,11 +123,19 @@ fn answer_lines(input: &mut impl Read, rt: &impl Print, buffer: &mut [u8])
         };
         turn_meets(&buffer[0..count], before, ledger, reply);
         let end = put_reply(buffer, 0, reply);
-        print(rt, buffer, end, reply);
+        if let Err(e) = print(rt, buffer, end, reply)
+            && e.kind() == ErrorKind::BrokenPipe
+        {
+            return Err(e);
+        }
     }
+    Ok(())
 }
 
-fn main(rt: HostRuntime) {
+fn main(rt: HostRuntime) -> ExitCode {
     let mut buffer: [u8; ROOM] = [0; ROOM];
-    answer_lines(&mut rt.stdin(), &rt, &mut buffer);
+    match answer_lines(&mut rt.stdin(), &rt, &mut buffer) {
+        Ok(()) => ExitCode::SUCCESS,
+        Err(_) => ExitCode::from(READER_ENDED),
+    }
 }
