@@ -25,7 +25,7 @@ const ROOM: usize = Line::LIMIT + 1;
 // Every loop has to end: this is more bytes and more lines than anybody types.
 const TURNS: u64 = 0xffff_ffff_ffff_ffff;
 
-// The status of a program whose reader has ended, as a shell gives it.
+// The exit status where nobody reads the answers any more: the one that a shell gives a program which ends at that.
 const READER_ENDED: u8 = 141;
 
 // What was read: how many bytes of a line are kept, or that the input has ended.
@@ -35,8 +35,8 @@ enum LineRead {
     Line(usize),
 }
 
-// Reads to an LF or the end of the input, and keeps the first bytes, as many as there is room for. A read that fails
-// counts as the end of the input.
+// Reads to an LF or the end of the input, and keeps the first bytes, as many as there is room for. A read that
+// fails counts as the end of the input.
 fn next_line(input: &mut impl Read, buffer: &mut [u8]) -> LineRead
     ensures { Kept buffer.new result }
 {
