@@ -1,6 +1,6 @@
 """Looks up each name that the documents cite: what they say is proved or refused has to exist.
 
-    python3 -m tests.documents.names    README.md, docs/, box/README.md and tests/wrong/README.md
+    python3 -m tests.documents.names    README.md, docs/ but PORT.md, box/README.md and tests/wrong/README.md
 
 A name is a word in `code` quotes. What looks like a path is a file or a folder, a must-fail edit
 (CRATE/LABEL) or a file of definitions or laws (CRATE/specs/FILE); any other name has to stand in
@@ -21,7 +21,9 @@ from pathlib import Path
 
 ROOT = Path(__file__).resolve().parents[2]
 WRONG = ROOT / 'tests/wrong/README.md'
-DOCUMENTS = [ROOT / 'README.md', *sorted((ROOT / 'docs').rglob('*.md')), ROOT / 'box/README.md', WRONG]
+PORT = ROOT / 'docs/PORT.md'  # cites what stood before the port, and is gone
+PAGES = [path for path in sorted((ROOT / 'docs').rglob('*.md')) if path != PORT]
+DOCUMENTS = [ROOT / 'README.md', *PAGES, ROOT / 'box/README.md', WRONG]
 CODED = re.compile(r'`([^`\n]+)`')
 NAME = re.compile(r"[A-Za-z_][\w'ᵣ·-]+(?:(?:::|\.|/)[A-Za-z_*][\w'*-]*)*(?:\.\.)?")
 # The rows of the tables that name edits.
