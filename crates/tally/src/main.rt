@@ -6,7 +6,7 @@ ghost use Rattle.answers.specs.Input.{input_limit, bytes_for_each};
 
 use answers::Written;
 use std::io;
-use std::io::{ErrorKind, Read};
+use std::io::Read;
 
 // One byte more than an input may have, so that a longer one is seen; and what the longest one needs.
 const INPUT_BYTES: usize = Written::INPUT_LIMIT + 1;
@@ -43,15 +43,12 @@ fn read_full(input: &mut impl Read, buffer: &mut [u8]) -> io::Result<usize>
     Ok(count)
 }
 
-// Writes the first bytes of a buffer. Where a reader ends before them, the rest is lost, which is no error.
+// Writes the first bytes of a buffer.
 fn print(rt: &impl Print, buffer: &[u8], count: usize) -> io::Result<()> {
-    if count > buffer.len() {
-        return Ok(());
+    if count <= buffer.len() {
+        rt.write_all(&buffer[0..count])?;
     }
-    match rt.write_all(&buffer[0..count]) {
-        Err(e) if e.kind() == ErrorKind::BrokenPipe => Ok(()),
-        written => written,
-    }
+    Ok(())
 }
 
 fn main(rt: HostRuntime) -> io::Result<()> {
