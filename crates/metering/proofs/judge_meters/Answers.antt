@@ -17,6 +17,7 @@ use Rattle.metering.specs.declared.MeterRead.TheVariants.{Moved}
 use Rattle.metering.specs.declared.MetersJudged.TheVariants.{Refused}
 use Rattle.metering.proofs.Energy.{judged_of, judged-by-reads}
 use Rattle.metering.proofs.judge_meters.Goals as goal
+use Rattle.metering.proofs.judge_meters.Goals.{After-read_meters}
 
 refused-2 : (dir : Direction) (n : ℕ) (ms : List Meter) → (leb 1 n && leb n 4 && all_meters has_ratio (take n ms)) ≡ false → Refused 2 ≡ judged_meters dir n ms
 unfolding judged_meters
@@ -45,28 +46,24 @@ returns-then-ratios_fit-eqfalse c =
     refused-2 a.direction a.count a.meters
     (second-fails (leb 1 a.count && leb a.count 4) _ (tested _ _ c.ratios_fit.ensures true c.if-ratios_fit-eqfalse.true))
 
+-- What the loop gave, of a count from 1 to 4 and ratios in their range.
+judged : (c : After-read_meters) (r : MeterRead) → c.read_meters.result ≡ r
+    → let a = c.args in judged_of r ≡ judged_meters a.direction a.count a.meters
+judged c r e =
+    let a = c.args in
+    counted a.direction a.count a.meters r (pos_of_ne-zero c.if-count-eq0.false) c.if-count-gt-COUNT_LIMIT.false
+    (tested _ _ c.ratios_fit.ensures false c.if-ratios_fit-eqfalse.false) (sym e ∙ c.read_meters.ensures)
+
 pub returns-in_default : goal.returns-in_default
 returns-in_default c =
-    let judged : (r : MeterRead) → c.read_meters.result ≡ r
-    → let a = c.args in judged_of r ≡ judged_meters a.direction a.count a.meters = λ r e. let a = c.args in
-    counted a.direction a.count a.meters r (pos_of_ne-zero c.if-count-eq0.false) c.if-count-gt-COUNT_LIMIT.false
-    (tested _ _ c.ratios_fit.ensures false c.if-ratios_fit-eqfalse.false) (sym e ∙ c.read_meters.ensures) in
-    judged _ c.in_default.is
+    judged (goal.at.returns-in_default c).After-read_meters _ c.in_default.is
 
 pub returns-then-back : goal.returns-then-back
 returns-then-back c =
-    let judged : (r : MeterRead) → c.read_meters.result ≡ r
-    → let a = c.args in judged_of r ≡ judged_meters a.direction a.count a.meters = λ r e. let a = c.args in
-    counted a.direction a.count a.meters r (pos_of_ne-zero c.if-count-eq0.false) c.if-count-gt-COUNT_LIMIT.false
-    (tested _ _ c.ratios_fit.ensures false c.if-ratios_fit-eqfalse.false) (sym e ∙ c.read_meters.ensures) in
-    judged (Moved c.in-Moved.adds c.in-Moved.takes true)
+    judged (goal.at.returns-then-back c).After-read_meters (Moved c.in-Moved.adds c.in-Moved.takes true)
     (c.in-Moved.is ∙ ap (Moved c.in-Moved.adds c.in-Moved.takes) c.if-back.true)
 
 pub returns : goal.returns
 returns c =
-    let judged : (r : MeterRead) → c.read_meters.result ≡ r
-    → let a = c.args in judged_of r ≡ judged_meters a.direction a.count a.meters = λ r e. let a = c.args in
-    counted a.direction a.count a.meters r (pos_of_ne-zero c.if-count-eq0.false) c.if-count-gt-COUNT_LIMIT.false
-    (tested _ _ c.ratios_fit.ensures false c.if-ratios_fit-eqfalse.false) (sym e ∙ c.read_meters.ensures) in
-    judged (Moved c.in-Moved.adds c.in-Moved.takes false)
+    judged (goal.at.returns c).After-read_meters (Moved c.in-Moved.adds c.in-Moved.takes false)
     (c.in-Moved.is ∙ ap (Moved c.in-Moved.adds c.in-Moved.takes) c.if-back.false)

@@ -18,6 +18,7 @@ use Rattle.metering.specs.declared.Reading.TheVariants.{Single}
 use Rattle.metering.proofs.Patterns.{field_of, digits_of, exact-at, below_at, no-number-refused, accepted-at, beyond-at}
 use Rattle.metering.proofs.Readings.{ratio-above-zero, rounded, declined, limit-rounded}
 use Rattle.metering.proofs.register_watt_hours.Goals as goal
+use Rattle.metering.proofs.register_watt_hours.Goals.{After-round_both_ways-bounds}
 
 -- The exact product at a pattern, in units.
 abbrev at : ℕ → ℕ → ℕ
@@ -56,22 +57,22 @@ returns-then-bounds-gt-LIMIT c =
     too_large c.args.ratio c.args.bits c.requires c.if-bits-gt2147483648.false c.if-field-gt153.false c.args.direction
     (subst (λ (x : Bounds). limit < x.up) c.round_both_ways-bounds.ensures c.if-bounds-gt-LIMIT.true)
 
-pub returns-in-Up : goal.returns-in-Up
-returns-in-Up c =
-    let within : (dir : Direction) → c.round_both_ways-bounds.result.up ≤ limit → c.args.direction ≡ dir
+-- What is given within the limit, in the direction that an arm knows.
+within : (c : After-round_both_ways-bounds) (dir : Direction) → c.round_both_ways-bounds.result.up ≤ limit → c.args.direction ≡ dir
     → let a = c.args in
-    given (divided dir (at a.ratio a.bits) unit) ≡ watt_hours a.direction a.ratio (Single (of_bits binary32 a.bits)) = λ dir h e. let a = c.args in
+    given (divided dir (at a.ratio a.bits) unit) ≡ watt_hours a.direction a.ratio (Single (of_bits binary32 a.bits))
+within c dir h e =
+    let a = c.args in
     not-too-large a.ratio a.bits c.requires c.if-bits-gt2147483648.false c.if-field-gt153.false dir
     (subst (λ (x : Bounds). x.up ≤ limit) c.round_both_ways-bounds.ensures h)
-    ∙ ap (λ (d : Direction). watt_hours d a.ratio (Single (of_bits binary32 a.bits))) (sym e) in
-    ap (λ (x : Bounds). given x.up) c.round_both_ways-bounds.ensures ∙ within Up c.if-bounds-gt-LIMIT.false c.in-Up.is
+    ∙ ap (λ (d : Direction). watt_hours d a.ratio (Single (of_bits binary32 a.bits))) (sym e)
+
+pub returns-in-Up : goal.returns-in-Up
+returns-in-Up c =
+    ap (λ (x : Bounds). given x.up) c.round_both_ways-bounds.ensures
+    ∙ (within (goal.at.returns-in-Up c).After-round_both_ways-bounds) Up c.if-bounds-gt-LIMIT.false c.in-Up.is
 
 pub returns-in-Down : goal.returns-in-Down
 returns-in-Down c =
-    let within : (dir : Direction) → c.round_both_ways-bounds.result.up ≤ limit → c.args.direction ≡ dir
-    → let a = c.args in
-    given (divided dir (at a.ratio a.bits) unit) ≡ watt_hours a.direction a.ratio (Single (of_bits binary32 a.bits)) = λ dir h e. let a = c.args in
-    not-too-large a.ratio a.bits c.requires c.if-bits-gt2147483648.false c.if-field-gt153.false dir
-    (subst (λ (x : Bounds). x.up ≤ limit) c.round_both_ways-bounds.ensures h)
-    ∙ ap (λ (d : Direction). watt_hours d a.ratio (Single (of_bits binary32 a.bits))) (sym e) in
-    ap (λ (x : Bounds). given x.down) c.round_both_ways-bounds.ensures ∙ within Down c.if-bounds-gt-LIMIT.false c.in-Down.is
+    ap (λ (x : Bounds). given x.down) c.round_both_ways-bounds.ensures
+    ∙ (within (goal.at.returns-in-Down c).After-round_both_ways-bounds) Down c.if-bounds-gt-LIMIT.false c.in-Down.is

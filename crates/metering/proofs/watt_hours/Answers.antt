@@ -13,17 +13,22 @@ use Rattle.metering.specs.declared.Reading.TheVariants.{Single}
 use Rattle.metering.proofs.Patterns.{no_nan, nan-refused}
 use Rattle.metering.proofs.Readings.{out_of_range, declined, whole-within, whole-beyond, count-beyond}
 use Rattle.metering.proofs.watt_hours.Goals as goal
+use Rattle.metering.proofs.watt_hours.Goals.{Else-ratio_fits-eqfalse}
 
 pub returns-then-ratio_fits-eqfalse : goal.returns-then-ratio_fits-eqfalse
 returns-then-ratio_fits-eqfalse c =
     let a = c.args in
     out_of_range a.direction a.ratio a.reading (tested _ _ c.ratio_fits.ensures true c.if-ratio_fits-eqfalse.true)
 
+-- Past the test of the ratio.
+in-range : (c : Else-ratio_fits-eqfalse) → ratio_fits c.args.ratio ≡ true
+in-range c =
+    tested _ _ c.ratio_fits.ensures false c.if-ratio_fits-eqfalse.false
+
 pub returns-then-count-gt-LIMIT : goal.returns-then-count-gt-LIMIT
 returns-then-count-gt-LIMIT c =
-    let in-range : ratio_fits c.args.ratio ≡ true = tested _ _ c.ratio_fits.ensures false c.if-ratio_fits-eqfalse.false in
     let a = c.args in
-    count-beyond a.direction a.ratio c.in-Whole.count in-range c.if-count-gt-LIMIT.true ∙ ap (watt_hours a.direction a.ratio) (sym c.in-Whole.is)
+    count-beyond a.direction a.ratio c.in-Whole.count (in-range (goal.at.returns-then-count-gt-LIMIT c).Else-ratio_fits-eqfalse) c.if-count-gt-LIMIT.true ∙ ap (watt_hours a.direction a.ratio) (sym c.in-Whole.is)
 
 pub overflow_mul-product : goal.overflow_mul-product
 overflow_mul-product c =
@@ -34,15 +39,13 @@ overflow_mul-product c =
 
 pub returns-then-product-gt-LIMIT : goal.returns-then-product-gt-LIMIT
 returns-then-product-gt-LIMIT c =
-    let in-range : ratio_fits c.args.ratio ≡ true = tested _ _ c.ratio_fits.ensures false c.if-ratio_fits-eqfalse.false in
     let a = c.args in
-    whole-beyond a.direction a.ratio c.in-Whole.count in-range c.if-product-gt-LIMIT.true ∙ ap (watt_hours a.direction a.ratio) (sym c.in-Whole.is)
+    whole-beyond a.direction a.ratio c.in-Whole.count (in-range (goal.at.returns-then-product-gt-LIMIT c).Else-ratio_fits-eqfalse) c.if-product-gt-LIMIT.true ∙ ap (watt_hours a.direction a.ratio) (sym c.in-Whole.is)
 
 pub returns-then-x : goal.returns-then-x
 returns-then-x c =
-    let in-range : ratio_fits c.args.ratio ≡ true = tested _ _ c.ratio_fits.ensures false c.if-ratio_fits-eqfalse.false in
     let a = c.args in
-    declined a.direction a.ratio (Single c.in-Single.x) in-range (nan-refused a.ratio c.in-Single.x c.if-x.true)
+    declined a.direction a.ratio (Single c.in-Single.x) (in-range (goal.at.returns-then-x c).Else-ratio_fits-eqfalse) (nan-refused a.ratio c.in-Single.x c.if-x.true)
     ∙ ap (watt_hours a.direction a.ratio) (sym c.in-Single.is)
 
 pub float_to_bits-x : goal.float_to_bits-x
@@ -50,14 +53,12 @@ float_to_bits-x c = no_nan c.in-Single.x c.if-x.false
 
 pub register_watt_hours-requires : goal.register_watt_hours-requires
 register_watt_hours-requires c =
-    let in-range : ratio_fits c.args.ratio ≡ true = tested _ _ c.ratio_fits.ensures false c.if-ratio_fits-eqfalse.false in
-    in-range
+    in-range (goal.at.register_watt_hours-requires c).Else-ratio_fits-eqfalse
 
 pub returns-else-product-gt-LIMIT : goal.returns-else-product-gt-LIMIT
 returns-else-product-gt-LIMIT c =
-    let in-range : ratio_fits c.args.ratio ≡ true = tested _ _ c.ratio_fits.ensures false c.if-ratio_fits-eqfalse.false in
     let a = c.args in
-    whole-within a.direction a.ratio c.in-Whole.count in-range c.if-product-gt-LIMIT.false ∙ ap (watt_hours a.direction a.ratio) (sym c.in-Whole.is)
+    whole-within a.direction a.ratio c.in-Whole.count (in-range (goal.at.returns-else-product-gt-LIMIT c).Else-ratio_fits-eqfalse) c.if-product-gt-LIMIT.false ∙ ap (watt_hours a.direction a.ratio) (sym c.in-Whole.is)
 
 pub returns-else-x : goal.returns-else-x
 returns-else-x c =

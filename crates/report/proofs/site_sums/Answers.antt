@@ -13,7 +13,7 @@ use Rattle.report.specs.Report.{plain_of}
 use Rattle.report.specs.Steps.{no_plants, plant_sums, SiteWithin, PlantWithin}
 use Rattle.report.proofs.Summing.{plant-stands, no-plant-stands, intact-next, not-intact, added_sums, plant-site-fits, plant-gave, plant-damaged, sums-widen, SiteSummed, site-start, site-kept, site-end, sites-turn}
 use Rattle.report.proofs.site_sums.Goals as goal
-use Rattle.report.proofs.site_sums.Goals.{In-loop-i, After-plant-plant, then-held+in-Summed, else-held}
+use Rattle.report.proofs.site_sums.Goals.{In-loop-i, After-plant-plant, then-held+in-Summed, else-held, In-Summed}
 
 -- There are eight records.
 inside : (c : In-loop-i) → c.loop-i.i < length c.args.plants
@@ -46,42 +46,37 @@ returns-in_default c =
       sites = λ e. absurd (true≢false (sym e));
     }
 
+-- What is summed up of it.
+gave : (c : In-Summed) → let p = c.plant-plant.result in
+    (plant_intact (some p) ≡ true) × (c.in-Summed.more ≡ plant_sums (plain_of p))
+gave c =
+    plant-gave c.plant-plant.result _ (sym c.in-Summed.is ∙ c.plant_summed.ensures.summed)
+
+site-fits : (c : In-Summed) → c.plant-plant.result.site ≤ 3
+site-fits c =
+    plant-site-fits _ (gave c).0
+
 pub offset_bounds-sites-at : goal.offset_bounds-sites-at
 offset_bounds-sites-at c =
-    let gave : let p = c.plant-plant.result in
-    (plant_intact (some p) ≡ true) × (c.in-Summed.more ≡ plant_sums (plain_of p)) = plant-gave c.plant-plant.result _ (sym c.in-Summed.is ∙ c.plant_summed.ensures.summed) in
-    let site-fits : c.plant-plant.result.site ≤ 3 = plant-site-fits _ gave.0 in
-    record { fits = omega (arith, site-fits) }
+    record { fits = omega (arith, (site-fits (goal.at.offset_bounds-sites-at c).In-Summed)) }
 
 pub bounds-sites-at : goal.bounds-sites-at
 bounds-sites-at c =
-    let gave : let p = c.plant-plant.result in
-    (plant_intact (some p) ≡ true) × (c.in-Summed.more ≡ plant_sums (plain_of p)) = plant-gave c.plant-plant.result _ (sym c.in-Summed.is ∙ c.plant_summed.ensures.summed) in
-    let site-fits : c.plant-plant.result.site ≤ 3 = plant-site-fits _ gave.0 in
-    omega (arith, site-fits)
+    omega (arith, (site-fits (goal.at.bounds-sites-at c).In-Summed))
 
 pub plus-requires : goal.plus-requires
 plus-requires c =
-    let gave : let p = c.plant-plant.result in
-    (plant_intact (some p) ≡ true) × (c.in-Summed.more ≡ plant_sums (plain_of p)) = plant-gave c.plant-plant.result _ (sym c.in-Summed.is ∙ c.plant_summed.ensures.summed) in
     let within : SiteWithin 1 c.in-Summed.more = subst PlantWithin c.in-Summed.is c.plant_summed.ensures.bound in
-    let site-fits : c.plant-plant.result.site ≤ 3 = plant-site-fits _ gave.0 in
     let h = c.loop-i-test.true in
-    (sums-widen (omega arith) (c.loop-i.invariant.3 _ site-fits).within, within)
+    (sums-widen (omega arith) (c.loop-i.invariant.3 _ (site-fits (goal.at.plus-requires c).In-Summed)).within, within)
 
 pub offset_bounds-sites-at-then-held : goal.offset_bounds-sites-at-then-held
 offset_bounds-sites-at-then-held c =
-    let gave : let p = c.plant-plant.result in
-    (plant_intact (some p) ≡ true) × (c.in-Summed.more ≡ plant_sums (plain_of p)) = plant-gave c.plant-plant.result _ (sym c.in-Summed.is ∙ c.plant_summed.ensures.summed) in
-    let site-fits : c.plant-plant.result.site ≤ 3 = plant-site-fits _ gave.0 in
-    record { fits = omega (arith, site-fits) }
+    record { fits = omega (arith, (site-fits (goal.at.offset_bounds-sites-at-then-held c).In-Summed)) }
 
 pub bounds-sites-at-then-held : goal.bounds-sites-at-then-held
 bounds-sites-at-then-held c =
-    let gave : let p = c.plant-plant.result in
-    (plant_intact (some p) ≡ true) × (c.in-Summed.more ≡ plant_sums (plain_of p)) = plant-gave c.plant-plant.result _ (sym c.in-Summed.is ∙ c.plant_summed.ensures.summed) in
-    let site-fits : c.plant-plant.result.site ≤ 3 = plant-site-fits _ gave.0 in
-    omega (arith, site-fits)
+    omega (arith, (site-fits (goal.at.bounds-sites-at-then-held c).In-Summed))
 
 pub loop-i-preserved : goal.loop-i-preserved
 loop-i-preserved c =

@@ -64,8 +64,7 @@ returns-then-self-eq0 c = rw (le-ltb 0 c.args.self.heat (le_of_eq c.if-self-eq0.
 
 pub returns-then-self-gt-LINES_LIMIT : goal.returns-then-self-gt-LINES_LIMIT
 returns-then-self-gt-LINES_LIMIT c =
-    let above : 0 < c.args.self.heat = pos_of_ne-zero c.if-self-eq0.false in
-    rw (lt-ltb 0 _ above, lt-leb _ _ c.if-self-gt-LINES_LIMIT.true)
+    rw (lt-ltb 0 _ (pos_of_ne-zero c.if-self-eq0.false), lt-leb _ _ c.if-self-gt-LINES_LIMIT.true)
 
 pub loop-i-init : goal.loop-i-init
 loop-i-init c =
@@ -75,9 +74,8 @@ loop-i-init c =
 pub returns-in_default : goal.returns-in_default
 unfolding lines_of
 returns-in_default c =
-    let above : 0 < c.args.self.heat = pos_of_ne-zero c.if-self-eq0.false in
     rw (
-      lt-ltb 0 _ above,
+      lt-ltb 0 _ (pos_of_ne-zero c.if-self-eq0.false),
       le-leb _ _ c.if-self-gt-LINES_LIMIT.false,
       sym (turn c.before.before.before false (energy-not-stated _ (sym c.energy.ensures ∙ ap energy_meaning c.in_default.is))),
     )
@@ -93,13 +91,11 @@ loop-i-preserved c =
 pub returns-then-self-total : goal.returns-then-self-total
 unfolding lines_of
 returns-then-self-total c =
-    let above : 0 < c.args.self.heat = pos_of_ne-zero c.if-self-eq0.false in
     let k = all-stated c.before.before in
-    rw (lt-ltb 0 _ above, le-leb _ _ c.if-self-gt-LINES_LIMIT.false, k.0, ← k.1, le-leb _ _ c.if-self-total.true)
+    rw (lt-ltb 0 _ (pos_of_ne-zero c.if-self-eq0.false), le-leb _ _ c.if-self-gt-LINES_LIMIT.false, k.0, ← k.1, le-leb _ _ c.if-self-total.true)
 
 pub returns : goal.returns
 unfolding lines_of
 returns c =
-    let above : 0 < c.args.self.heat = pos_of_ne-zero c.if-self-eq0.false in
     let k = all-stated c.before.before in
-    rw (lt-ltb 0 _ above, le-leb _ _ c.if-self-gt-LINES_LIMIT.false, k.0, ← k.1, lt-leb _ _ c.if-self-total.false)
+    rw (lt-ltb 0 _ (pos_of_ne-zero c.if-self-eq0.false), le-leb _ _ c.if-self-gt-LINES_LIMIT.false, k.0, ← k.1, lt-leb _ _ c.if-self-total.false)

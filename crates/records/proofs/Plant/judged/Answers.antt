@@ -8,6 +8,7 @@ use Rattle.records.specs.Judging.{plant_judged}
 use Rattle.records.specs.declared.HeatJudged.{HeatJudged}
 use Rattle.records.proofs.Judged.{by_heat, plant-number, plant-site, plant-figures, plant-lines, plant-heat}
 use Rattle.records.proofs.Plant.judged.Goals as goal
+use Rattle.records.proofs.Plant.judged.Goals.{After-heat_judged-heat}
 
 pub returns-then-number-gt-LAST : goal.returns-then-number-gt-LAST
 returns-then-number-gt-LAST c = let a = c.args in rw (plant-number a.number a.self c.if-number-gt-LAST.true)
@@ -35,29 +36,23 @@ returns-then-are_within_limits-eqfalse c =
     rw (plant-lines a.number a.self c.if-number-gt-LAST.false c.if-self-gt-SITE_LIMIT.false (fit c.before.before) false
     (tested _ _ c.are_within_limits.ensures true c.if-are_within_limits-eqfalse.true))
 
+-- Of lines within their limits the heat decides.
+decided : (c : After-heat_judged-heat) (j : HeatJudged) → c.heat_judged-heat.result ≡ j
+    → let a = c.args in
+    plant_judged a.number a.self ≡ by_heat a.self j
+decided c j e =
+    let a = c.args in
+    plant-heat a.number a.self c.if-number-gt-LAST.false c.if-self-gt-SITE_LIMIT.false (fit c.before.before.before)
+    (tested _ _ c.are_within_limits.ensures false c.if-are_within_limits-eqfalse.false) j (sym c.heat_judged-heat.ensures ∙ e)
+
 pub returns-in-Nothing : goal.returns-in-Nothing
 returns-in-Nothing c =
-    let decided : (j : HeatJudged) → c.heat_judged-heat.result ≡ j
-    → let a = c.args in
-    plant_judged a.number a.self ≡ by_heat a.self j = λ j e. let a = c.args in
-    plant-heat a.number a.self c.if-number-gt-LAST.false c.if-self-gt-SITE_LIMIT.false (fit c.before.before.before.before)
-    (tested _ _ c.are_within_limits.ensures false c.if-are_within_limits-eqfalse.false) j (sym c.heat_judged-heat.ensures ∙ e) in
-    rw (decided _ c.in-Nothing.is)
+    rw (decided (goal.at.returns-in-Nothing c).After-heat_judged-heat _ c.in-Nothing.is)
 
 pub returns-in-Refused : goal.returns-in-Refused
 returns-in-Refused c =
-    let decided : (j : HeatJudged) → c.heat_judged-heat.result ≡ j
-    → let a = c.args in
-    plant_judged a.number a.self ≡ by_heat a.self j = λ j e. let a = c.args in
-    plant-heat a.number a.self c.if-number-gt-LAST.false c.if-self-gt-SITE_LIMIT.false (fit c.before.before.before.before)
-    (tested _ _ c.are_within_limits.ensures false c.if-are_within_limits-eqfalse.false) j (sym c.heat_judged-heat.ensures ∙ e) in
-    rw (decided _ c.in-Refused.is)
+    rw (decided (goal.at.returns-in-Refused c).After-heat_judged-heat _ c.in-Refused.is)
 
 pub returns-in-Within : goal.returns-in-Within
 returns-in-Within c =
-    let decided : (j : HeatJudged) → c.heat_judged-heat.result ≡ j
-    → let a = c.args in
-    plant_judged a.number a.self ≡ by_heat a.self j = λ j e. let a = c.args in
-    plant-heat a.number a.self c.if-number-gt-LAST.false c.if-self-gt-SITE_LIMIT.false (fit c.before.before.before.before)
-    (tested _ _ c.are_within_limits.ensures false c.if-are_within_limits-eqfalse.false) j (sym c.heat_judged-heat.ensures ∙ e) in
-    rw (decided _ c.in-Within.is)
+    rw (decided (goal.at.returns-in-Within c).After-heat_judged-heat _ c.in-Within.is)
