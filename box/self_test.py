@@ -22,7 +22,7 @@ FEW = re.compile(r'listing|example|full|random-700[0-2]')  # inputs
 PEERS = ('gcc', 'clang')
 
 # The default loss, the function of its rule, and the slip.
-LOSS, RULE, SLIP = ' i16 2000,', '@"emissions::default_loss_20"(', ' i16 2001,'
+LOSS, RULE, SLIP = ' i16 2000,', '@"emissions::Loss::judged"(', ' i16 2001,'
 # The same in the plain C. RAM that is too small for it.
 LOSS_IN_C, SLIP_IN_C, LITTLE_RAM = '*loss = 2000;', '*loss = 2001;', 2_048
 # In the proved division, what is done for a million, by which crates/text does not call it; a slip.
@@ -62,7 +62,8 @@ OUTSIDE = ('@number = constant ptr null', 'module asm "nop"')
 WITHIN = ('%x = ptrtoint ptr null to i64', '%x = inttoptr i64 0 to ptr',
           'call void asm "nop", ""()', 'call void %x()', 'indirectbr ptr null, []',
           '%x = getelementptr ptr, ptr null, i64 1', '%x = alloca { ptr, i64 }, align 8',
-          '%x = udiv exact i64 %a0, 10', '%x = udiv i64 10, %a0', '%x = udiv i64 %a0, -10')
+          '%x = udiv exact i64 %a0, 10', '%x = udiv i64 10, %a0', '%x = udiv i64 %a0, -10',
+          '%x = load { i8, ptr }, ptr %a0, align 8', 'store { i8, ptr } poison, ptr null, align 8')
 OTHERS = (
     ('another layout', 'e-m:e-', 'E-m:e-'),
     ('another triple', 'x86_64-unknown', 'aarch64-unknown'),

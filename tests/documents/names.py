@@ -1,11 +1,12 @@
 """Looks up each name that the documents cite: what they say is proved or refused has to exist.
 
-    python3 -m tests.documents.names    README.md, docs/ but PORT.md, box/README.md and tests/wrong/README.md
+    python3 -m tests.documents.names    README.md, docs/, box/README.md and tests/wrong/README.md; of docs/ not
+                                        PORT.md and DESIGN-PASS.md, which cite what is gone
 
 A name is a word in `code` quotes. What looks like a path is a file or a folder, a must-fail edit
 (CRATE/LABEL) or a file of definitions or laws (CRATE/specs/FILE); any other name has to stand in
 the code, the definitions, the laws or the firmware and its test, comments left out, or to be an
-edit's. Words of the text form, commands and formulas are passed over: they are one letter or have
+edit's. A note on a landing may also cite what docs/DESIGN-PASS.md says is gone. Words of the text form, commands and formulas are passed over: they are one letter or have
 a space, a bracket or another sign that no name has.
 
 The tables of docs/PROVED.md and tests/wrong/README.md name edits with marks: (t) for one of
@@ -21,8 +22,10 @@ from pathlib import Path
 
 ROOT = Path(__file__).resolve().parents[2]
 WRONG = ROOT / 'tests/wrong/README.md'
-PORT = ROOT / 'docs/PORT.md'  # cites what stood before the port, and is gone
-PAGES = [path for path in sorted((ROOT / 'docs').rglob('*.md')) if path != PORT]
+DESIGN = ROOT / 'docs/DESIGN-PASS.md'  # names what is gone, which the notes of before may cite
+NOTES = ROOT / 'docs/landings'
+OF_BEFORE = {ROOT / 'docs/PORT.md', DESIGN}
+PAGES = [path for path in sorted((ROOT / 'docs').rglob('*.md')) if path not in OF_BEFORE]
 DOCUMENTS = [ROOT / 'README.md', *PAGES, ROOT / 'box/README.md', WRONG]
 CODED = re.compile(r'`([^`\n]+)`')
 NAME = re.compile(r"[A-Za-z_][\w'ᵣ·-]+(?:(?:::|\.|/)[A-Za-z_*][\w'*-]*)*(?:\.\.)?")
@@ -32,7 +35,7 @@ MARKED = re.compile(r'`((?:\w+/)?[a-z_0-9]+)`((?: \([tdc]\))*)')
 
 # Words of the text form, of formulas and of the toolchain, which nothing declares.
 WORDS = {'ok', 'refused', 'damaged', 'project', 'leakage', 'baseline', 'thermal', 'hydro', 'rt', 'io', 'libc', 'extern',
-         'requires', 'ensures', 'usize', 'isize', 'code', 'python3', 'valgrind', 'qemu-system-arm',
+         'requires', 'ensures', 'usize', 'isize', 'Box', 'Vec', 'code', 'python3', 'valgrind', 'qemu-system-arm',
          'gcc-arm-none-eabi'}
 
 # What begins a comment, by the ending of a file.
@@ -71,9 +74,12 @@ def stands(name: str, known: set[str], labels: set[str]) -> bool:
 def missing_names(made: dict[str, Path]) -> tuple[int, list[str]]:
     known = words()
     labels = {*made, *(path.stem for path in made.values())}
+    gone = set(CODED.findall(DESIGN.read_text(encoding='utf-8')))
     looked_up, wrong = 0, []
     for document in DOCUMENTS:
         cited = set(CODED.findall(document.read_text(encoding='utf-8'))) - WORDS
+        if document.parent == NOTES:
+            cited -= gone
         for name in sorted(name for name in cited if NAME.fullmatch(name)):
             looked_up += 1
             if not stands(name, known, labels):

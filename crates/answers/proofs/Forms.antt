@@ -1,33 +1,41 @@
--- A line does the same in the box's fields as with its numbers as written. Assumes nothing.
-use mathlib.Core.Path.{◌≡◌, refl, ap, ◌∙◌}
+-- What a line asks for, as its text says it and as it was read, with its numbers in the box's fields. Assumes nothing.
+use Rattle.std.specs.Prelude.{Option, None, Some, option_map}
+use mathlib.Core.Path.{◌≡◌, refl, sym, ap, ◌∙◌}
 use mathlib.Core.List.{List}
-use mathlib.Core.Option.{Option, none, some, map}
 use Prim.Native.Nat.{ℕ}
+use Rattle.report.specs.Report.{Reply}
+use Rattle.ledger.specs.Operations.{step, reply}
 use Rattle.ledger.specs.declared.Ledger.{Ledger}
 use Rattle.forms.specs.Form.{Form}
 use Rattle.forms.specs.Reading.{line_form}
-use Rattle.forms.specs.Calls.{call_of, line_call, fitted_call, line_of}
-use Rattle.forms.specs.Steps.{call_in}
-use Rattle.forms.specs.declared.Line.{Line}
+use Rattle.forms.specs.Calls.{call_of, line_call, call_meaning, fitted_call}
+use Rattle.forms.specs.declared.Call.{Call}
 use Rattle.forms.proofs.Fitted.{fitted-steps, fitted-replies}
-use Rattle.forms.proofs.Lines.{call-in-line}
 use Rattle.answers.specs.Input.{line_step, line_reply}
 
 module _ (l : Ledger) where
-  steps : (o : Option Form) → line_step l (map fitted_call o) ≡ line_step l (map call_of o)
-  steps none = refl
-  steps (some f) = fitted-steps l f
+  steps : (o : Option Form) → line_step l (option_map fitted_call o) ≡ line_step l (option_map call_of o)
+  steps None = refl
+  steps (Some f) = fitted-steps l f
 
-  replies : (o : Option Form) → line_reply l (map fitted_call o) ≡ line_reply l (map call_of o)
-  replies none = refl
-  replies (some f) = fitted-replies l f
+  replies : (o : Option Form) → line_reply l (option_map fitted_call o) ≡ line_reply l (option_map call_of o)
+  replies None = refl
+  replies (Some f) = fitted-replies l f
 
--- What is done for a line that was read is what the line asks for.
-module _ (l : Ledger) (line : List ℕ) (ln : Line) (next : ℕ) (e : ln ≡ line_of (map fitted_call (line_form line)) next) where
-  pub read-steps : line_step l (call_in ln) ≡ line_step l (line_call line)
-  unfolding line_call
-  read-steps = ap (line_step l) (ap call_in e ∙ call-in-line _ next) ∙ steps l (line_form line)
+  module _ (line : List ℕ) (r : Option Call)
+      (e : option_map call_meaning r ≡ option_map fitted_call (line_form line)) where
+    pub read-steps : line_step l (line_call line) ≡ line_step l (option_map call_meaning r)
+    unfolding line_call
+    read-steps = sym (ap (line_step l) e ∙ steps (line_form line))
 
-  pub read-replies : line_reply l (call_in ln) ≡ line_reply l (line_call line)
-  unfolding line_call
-  read-replies = ap (line_reply l) (ap call_in e ∙ call-in-line _ next) ∙ replies l (line_form line)
+    pub read-replies : line_reply l (line_call line) ≡ line_reply l (option_map call_meaning r)
+    unfolding line_call
+    read-replies = sym (ap (line_reply l) e ∙ replies (line_form line))
+
+    -- A line that was read as a call leaves and is answered what the call does.
+    pub answered : (call c : Call) → r ≡ Some call → call ≡ c → {next : Ledger} {a : Reply}
+        → next ≡ step l (call_meaning c) → a ≡ reply l (call_meaning c)
+        → (next ≡ line_step l (line_call line)) × (a ≡ line_reply l (line_call line))
+    answered call c some is n a =
+        let some = some ∙ ap Some is in
+        (n ∙ sym (rw some at read-steps), a ∙ sym (rw some at read-replies))

@@ -1,14 +1,12 @@
 -- Lines answered one after the other print what the program tally prints for the text of these lines. Assumes nothing.
+use Rattle.std.specs.Prelude.{Option, None, Some, option_map}
 use Prim.Native.Nat.{ℕ, ◌≤◌, ◌<◌}
 use mathlib.Core.Path.{◌≡◌, refl, sym, ap, ◌∙◌}
 use mathlib.Core.List.{List, [], ◌∷◌, ◌++◌, map, append_assoc, append-nil}
-use mathlib.Core.Option
-use mathlib.Core.Option.{Option, none, some}
 use native.Mathlib.Decide.{dec_lt}
 use native.Mathlib.Omega.{arith}
 use lib.ListN.{length, take}
 use lib.Seq.{take_all, length-take-le}
-use borrow.Author.Tests.{ne_eqb}
 use Rattle.rounding.specs.Calls.{after_calls, answers}
 use Rattle.ledger.specs.Standing.{Call}
 use Rattle.ledger.specs.Operations.{new_ledger, reply}
@@ -20,23 +18,13 @@ use Rattle.forms.specs.Reading.{line_form}
 use Rattle.forms.specs.Calls.{call_of, line_call}
 use Rattle.forms.proofs.Lines.{long-line}
 use Rattle.answers.specs.Answers.{reply_text}
-use Rattle.answers.specs.Input.{onto, lines, line_step, line_reply, lines_replies, replies_text, input_limit, output}
+use Rattle.answers.specs.Input.{lines, line_step, line_reply, lines_replies, replies_text, input_limit, output}
 use Rattle.answers.specs.Typed.{NoLf, Lines, typed_text, typed_ledger, typed_answer}
+use Rattle.answers.proofs.Lines.{one_line, last_line}
 use Rattle.answers.proofs.Replies.{lines_text, output-line-by-line}
 use Rattle.answers.proofs.Lengths.{reply-length, longest-any}
 
 -- ---- the lines of a text of lines
-
--- A line without an LF before a text that begins another line.
-one_line : (line : List ℕ) → NoLf line → (rest : List ℕ) → lines (line ++ (10 ∷ rest)) ≡ line ∷ lines rest
-unfolding lines
-one_line [] h rest = refl
-one_line (b ∷ t) h rest = rw (ne_eqb b 10 h.0) (ap (onto b) (one_line t h.1 rest))
-
-last_line : (b : ℕ) (line : List ℕ) → NoLf (b ∷ line) → lines (b ∷ line) ≡ (b ∷ line) ∷ []
-unfolding lines
-last_line b [] h = rw (ne_eqb b 10 h.0)
-last_line b (d ∷ t) h = rw (ne_eqb b 10 h.0) (ap (onto b) (last_line d t h.1))
 
 typed-lines : (ls : List (List ℕ)) → Lines ls → (rest : List ℕ) → lines (typed_text ls ++ rest) ≡ ls ++ lines rest
 unfolding typed_text
@@ -49,24 +37,28 @@ typed-lines (line ∷ ls) h rest =
 -- ---- what is printed
 
 -- The program tally prints for the text of the lines what their answers are, one after the other ..
-pub typed-output : (ls : List (List ℕ)) → Lines ls → length (typed_text ls) ≤ input_limit → output (typed_text ls) ≡ replies_text (lines_replies ls)
+pub typed-output : (ls : List (List ℕ)) → Lines ls → length (typed_text ls) ≤ input_limit
+    → output (typed_text ls) ≡ replies_text (lines_replies ls)
 unfolding lines lines_text
 typed-output ls h k =
     output-line-by-line (typed_text ls) k
     ∙ ap (lines_text new_ledger) (ap lines (sym (append-nil (typed_text ls))) ∙ typed-lines ls h [] ∙ append-nil ls)
 
 -- .. also where the last one, which then is not empty, lacks its LF.
-pub typed-output-open : (ls : List (List ℕ)) (b : ℕ) (line : List ℕ) → Lines ls → NoLf (b ∷ line) → length (typed_text ls ++ (b ∷ line)) ≤ input_limit
+pub typed-output-open : (ls : List (List ℕ)) (b : ℕ) (line : List ℕ) → Lines ls → NoLf (b ∷ line)
+    → length (typed_text ls ++ (b ∷ line)) ≤ input_limit
     → output (typed_text ls ++ (b ∷ line)) ≡ replies_text (lines_replies (ls ++ ((b ∷ line) ∷ [])))
 unfolding lines_text
 typed-output-open ls b line h n k =
     output-line-by-line (typed_text ls ++ (b ∷ line)) k
-    ∙ ap (lines_text new_ledger) (typed-lines ls h (b ∷ line) ∙ ap (λ (x : List (List ℕ)). ls ++ x) (last_line b line n))
+    ∙ ap (lines_text new_ledger)
+    (typed-lines ls h (b ∷ line) ∙ ap (λ (x : List (List ℕ)). ls ++ x) (last_line (b ∷ line) (omega arith) n))
 
 -- ---- one more line
 
 text-next : (l : Ledger) (ls : List (List ℕ)) (line : List ℕ)
-    → lines_text l (ls ++ (line ∷ [])) ≡ lines_text l ls ++ reply_text (line_reply (after_calls line_step l (map line_call ls)) (line_call line))
+    → lines_text l (ls ++ (line ∷ []))
+    ≡ lines_text l ls ++ reply_text (line_reply (after_calls line_step l (map line_call ls)) (line_call line))
 unfolding lines_text answers after_calls replies_text
 text-next l [] line = append-nil (reply_text (line_reply l (line_call line)))
 text-next l (x ∷ ls) line =
@@ -75,18 +67,21 @@ text-next l (x ∷ ls) line =
 
 -- Its answer is printed after theirs.
 pub typed-next : (before : List (List ℕ)) (line : List ℕ)
-    → replies_text (lines_replies (before ++ (line ∷ []))) ≡ replies_text (lines_replies before) ++ typed_answer before line
+    → replies_text (lines_replies (before ++ (line ∷ [])))
+    ≡ replies_text (lines_replies before) ++ typed_answer before line
 unfolding typed_ledger lines_text
 typed-next before line = text-next new_ledger before line
 
 ledger-next : (l : Ledger) (ls : List (List ℕ)) (line : List ℕ)
-    → after_calls line_step l (map line_call (ls ++ (line ∷ []))) ≡ line_step (after_calls line_step l (map line_call ls)) (line_call line)
+    → after_calls line_step l (map line_call (ls ++ (line ∷ [])))
+    ≡ line_step (after_calls line_step l (map line_call ls)) (line_call line)
 unfolding after_calls
 ledger-next l [] line = refl
 ledger-next l (x ∷ ls) line = ledger-next (line_step l (line_call x)) ls line
 
 -- It leaves what it leaves of the ledger that they left.
-pub typed-leaves : (before : List (List ℕ)) (line : List ℕ) → typed_ledger (before ++ (line ∷ [])) ≡ line_step (typed_ledger before) (line_call line)
+pub typed-leaves : (before : List (List ℕ)) (line : List ℕ)
+    → typed_ledger (before ++ (line ∷ [])) ≡ line_step (typed_ledger before) (line_call line)
 unfolding typed_ledger
 typed-leaves before line = ledger-next new_ledger before line
 
@@ -101,7 +96,7 @@ pub line-cut : (k : ℕ) → line_limit < k → (line : List ℕ) → line_call 
 unfolding line_call
 line-cut k h line = go (dec_lt k (length line))
   where
-    go : Dec (k < length line) → Option.map call_of (line_form (take k line)) ≡ Option.map call_of (line_form line)
+    go : Dec (k < length line) → option_map call_of (line_form (take k line)) ≡ option_map call_of (line_form line)
     go (yes w) =
         let n = length-take-le k line (omega arith) in
         rw (long-line (take k line) (omega arith), long-line line (omega arith))
@@ -109,5 +104,5 @@ line-cut k h line = go (dec_lt k (length line))
 
 -- An answer takes at most 140 bytes.
 pub answer-length : (l : Ledger) (c : Option Call) → length (reply_text (line_reply l c)) ≤ 140
-answer-length l none = omega (arith, reply-length (refused_with 14) (omega arith))
-answer-length l (some c) = omega (arith, reply-length (reply l c) (reply-within l c), longest-any (reply l c))
+answer-length l None = omega (arith, reply-length (refused_with 14) (omega arith))
+answer-length l (Some c) = omega (arith, reply-length (reply l c) (reply-within l c), longest-any (reply l c))

@@ -1,6 +1,4 @@
 pub mod Answers
-pub mod Owner
 pub mod Input
 pub mod Typed
 pub mod Claim
-pub mod Steps

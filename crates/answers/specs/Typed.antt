@@ -1,5 +1,6 @@
--- Lines typed one after the other at a box, each answered before the next is read (document 01, "The text the program tally reads", line by line;
--- "The ledger and its exact value": "Each call gets the ledger that the call before it returned or left"). A line stands here without its LF (10).
+-- Lines typed one after the other at a box, each answered before the next is read (document 01, "The text the program
+-- tally reads", line by line; "The ledger and its exact value": "Each call gets the ledger that the call before it
+-- returned or left"). A line stands here without its LF (10).
 use Rattle.std.specs.Prelude.{ℕ, ◌≡◌, List, [], ◌∷◌, ◌++◌, map}
 use Rattle.rounding.specs.Lists.{All}
 use Rattle.rounding.specs.Calls.{after_calls}

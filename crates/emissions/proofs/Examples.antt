@@ -7,7 +7,8 @@ use Rattle.emissions.specs.declared.CombinedMargin.{CombinedMargin}
 use Rattle.emissions.specs.declared.CombinedMargin.TheVariants.{Mean}
 
 -- 1,000,001 Wh with a loss of 20 percent are 1,200,001.2 Wh.
-pub losses-of-20-percent : (exact_with_losses (whole 1000001) 2000 ≤ᵣ 12000012 ÷ 10) × (12000012 ÷ 10 ≤ᵣ exact_with_losses (whole 1000001) 2000)
+pub losses-of-20-percent : (exact_with_losses (whole 1000001) 2000 ≤ᵣ 12000012 ÷ 10)
+    × (12000012 ÷ 10 ≤ᵣ exact_with_losses (whole 1000001) 2000)
 losses-of-20-percent = (lit≤ tt, lit≤ tt)
 
 -- An operating margin of 1,000,001 at 30 percent and a build margin of 500,000 at 70 percent have the mean 650,000.3.

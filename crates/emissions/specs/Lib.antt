@@ -2,5 +2,3 @@ pub mod Factor
 pub mod Grid
 pub mod Loss
 pub mod Figure
-pub mod Answers
-pub mod Steps

@@ -1,95 +1,73 @@
--- The parts that a loop reads one after the other, of which it keeps the first four and counts all: what is left gives what the whole
--- gives. Assumes nothing.
-use Prim.Native.Nat.{ℕ, zero, suc, ◌+◌, ◌≤◌, ◌<◌}
-use mathlib.Core.Path.{◌≡◌, refl, sym, ap}
+-- The parts that a loop reads one after the other: what is left gives what the whole gives. Assumes nothing.
+use Rattle.std.specs.Prelude.{Option, None, Some}
+use Prim.Native.Nat.{ℕ, zero, suc, ◌+◌, ◌≤◌}
+use mathlib.Core.Path.{◌≡◌, refl}
 use mathlib.Core.List.{List, [], ◌∷◌, map}
-use mathlib.Core.Option.{Option, none, some, some-injective}
+use Rattle.std.proofs.lemmas.List.{length-map, set_past}
 use native.Mathlib.Numerals.{add-one}
 use native.Mathlib.Omega.{arith}
-use lib.ListN.{length, drop, replicate, length-drop}
-use borrow.Author.Tests.{le-ltb}
-use Rattle.text.specs.Template.{Read, map_read, template_in}
-use Rattle.text.specs.declared.Numbers.{Numbers}
-use Rattle.text.proofs.Templates.{template-shorter}
-use Rattle.rounding.specs.Lists.{All}
-use Rattle.forms.specs.Reading.{Row, or_else, one_of, followed, many_within, many_of, fuels, plain_meters, ratio_meters, meters}
+use lib.ListN.{length, set, replicate}
+use Rattle.text.specs.Read.{Read, map_read}
+use Rattle.forms.specs.Reading.{Row, one_of, followed, many_within, many_of}
 use Rattle.forms.specs.Calls.{four_of}
-use Rattle.forms.specs.Steps.{found, kept_at}
+use Rattle.forms.specs.Steps.{parts_within, parts_in, placed_from}
 
--- ---- more turns than bytes change nothing
+-- ---- the turns of the loop
 
--- A table none of whose templates is empty takes a byte at least.
-abbrev pub TakesBytes : {A : Type 0} → List (Row A) → Type 0
-TakesBytes rows = All (λ r. 0 < length r.template) rows
+-- The parts placed so far, and those that are left: together they give what the whole gives.
+pub record Amounts {A : Type 0} (whole : Read (List A)) (all_placed : List A) (count : ℕ) (places : List A) (left : Read (List A)) : Type 0 where
+  pub placed : placed_from count places left.value ≡ all_placed
+  pub all : count + length left.value ≡ length whole.value
+  pub rest : left.rest ≡ whole.rest
 
-pub fuels-take : TakesBytes fuels
-unfolding fuels
-fuels-take = (omega arith, (omega arith, (omega arith, tt)))
+-- The whole as the loop answers it: the places, the count, and what is left of the text.
+pub record Gives {A : Type 0} (whole : Read (List A)) (all_placed : List A) (count : ℕ) (places : List A) (t : List ℕ) : Type 0 where
+  pub placed : places ≡ all_placed
+  pub all : count ≡ length whole.value
+  pub rest : t ≡ whole.rest
 
-pub meters-take : TakesBytes meters
-unfolding meters plain_meters ratio_meters
-meters-take =
-    (omega arith, (omega arith, (omega arith, (omega arith, (omega arith, (omega arith, (omega arith, (omega arith, tt))))))))
+module _ {A : Type 0} (part_in : List ℕ → Option (Read A)) (whole : Read (List A)) (all_placed : List A) where
+  nothing_left : (count : ℕ) (places : List A) (t : List ℕ) → Amounts whole all_placed count places (record { value = []; rest = t })
+      → Gives whole all_placed count places t
+  unfolding placed_from
+  nothing_left count places t l = record { placed = l.placed; all = (let n = l.all in omega arith); rest = l.rest }
 
-one-shorter : {A : Type 0} (rows : List (Row A)) → TakesBytes rows → (t : List ℕ) (r : Read A) → one_of rows t ≡ some r → length r.rest < length t
-unfolding one_of
-one-shorter [] h t r e = let z : ◌≡◌ {A = ℕ} 0 1 = cc in absurd (omega arith)
-one-shorter {A = A} (w ∷ rows) h t r e = go (template_in w.template t) refl e (one-shorter rows h.1 t r)
-  where
-    go : (o : Option (Read Numbers)) → template_in w.template t ≡ o → or_else (map_read w.value o) (one_of rows t) ≡ some r
-        → (one_of rows t ≡ some r → length r.rest < length t) → length r.rest < length t
-    go none k q more = more q
-    go (some n) k q more =
-        let z : n.rest ≡ r.rest = ap (λ (a : Read A). a.rest) (some-injective _ _ q) in
-        rw (← z) (template-shorter w.template t n k h.0)
+  pub left_end : (count : ℕ) (places : List A) (k : ℕ) (t : List ℕ) → k ≡ 0 → Amounts whole all_placed count places (parts_within part_in k t)
+      → Gives whole all_placed count places t
+  unfolding parts_within
+  left_end count places zero t e l = nothing_left count places t l
+  left_end count places (suc k) t e l = absurd (omega arith)
 
-module _ {A : Type 0} (rows : List (Row A)) (takes : TakesBytes rows) where
-  within_none : (k : ℕ) (t : List ℕ) → length t ≤ 0 → many_within rows k t ≡ record { value = []; rest = t }
-  unfolding many_within
-  within_none zero t h = refl
-  within_none (suc k) t h = go (one_of rows t) refl
-    where
-      go : (o : Option (Read A)) → one_of rows t ≡ o → followed t o (many_within rows k) ≡ record { value = []; rest = t }
-      go none e = refl
-      go (some r) e = absurd (omega (arith, one-shorter rows takes t r e))
+  pub left_none : (count : ℕ) (places : List A) (k : ℕ) (t : List ℕ) → None ≡ part_in t
+      → Amounts whole all_placed count places (parts_within part_in k t) → Gives whole all_placed count places t
+  unfolding parts_within
+  left_none count places zero t e l = nothing_left count places t l
+  left_none count places (suc k) t e l = nothing_left count places t (rw (← e) at l)
 
-  within-any : (j k : ℕ) (t : List ℕ) → length t ≤ j → length t ≤ k → many_within rows j t ≡ many_within rows k t
-  unfolding many_within
-  within-any zero k t h l = sym (within_none k t h)
-  within-any (suc j) zero t h l = within_none (suc j) t l
-  within-any (suc j) (suc k) t h l = go (one_of rows t) refl (λ r. within-any j k r.rest)
-    where
-      go : (o : Option (Read A)) → one_of rows t ≡ o
-          → ((r : Read A) → length r.rest ≤ j → length r.rest ≤ k → many_within rows j r.rest ≡ many_within rows k r.rest)
-          → followed t o (many_within rows j) ≡ followed t o (many_within rows k)
-      go none e more = refl
-      go (some r) e more =
-          let b = one-shorter rows takes t r e in
-          rw (more r (omega arith) (omega arith))
-
-  pub within-length : (s : List ℕ) (at : ℕ) → many_within rows (length s) (drop at s) ≡ many_of rows (drop at s)
-  within-length s at = within-any (length s) (length (drop at s)) (drop at s) (omega (arith, length-drop at s)) (omega arith)
+  -- A part was read: it is placed, and counted.
+  pub left_one : (count : ℕ) (places new : List A) (j k : ℕ) (t rest : List ℕ) (part : A) → new ≡ set places count part → j ≡ k + 1
+      → Amounts whole all_placed count places (parts_within part_in j t) → Some (record { value = part; rest = rest }) ≡ part_in t
+      → Amounts whole all_placed (count + 1) new (parts_within part_in k rest)
+  unfolding parts_within placed_from
+  left_one count places new j k t rest part p h l e =
+      let r = rw (h, add-one, ← e) at l in
+      rw p (record { placed = r.placed; all = (let n = r.all in omega arith); rest = r.rest })
 
 -- ---- the first four
 
--- The parts kept after those that are left, where so many came before them.
-unfoldable pub kept : {B : Type 0} → ℕ → List B → List B → List B
-kept count parts [] = parts
-kept count parts (b ∷ bs) = kept (count + 1) (kept_at count parts b) bs
-
 module _ {B : Type 0} where
-  kept_full : (count : ℕ) (parts bs : List B) → 4 ≤ count → kept count parts bs ≡ parts
-  unfolding kept
-  kept_full count parts [] h = refl
-  kept_full count parts (b ∷ bs) h = rw (le-ltb count 4 h) (kept_full (count + 1) parts bs (omega arith))
+  placed_full : (n : ℕ) (places parts : List B) → length places ≤ n → placed_from n places parts ≡ places
+  unfolding placed_from
+  placed_full n places [] h = refl
+  placed_full n places (b ∷ parts) h = rw (set_past places n b h) (placed_full (n + 1) places parts (omega arith))
 
-  pub kept-four : (empty : B) (bs : List B) → kept 0 (replicate 4 empty) bs ≡ four_of empty bs
-  unfolding kept four_of
-  kept-four empty [] = refl
-  kept-four empty (a ∷ []) = refl
-  kept-four empty (a ∷ b ∷ []) = refl
-  kept-four empty (a ∷ b ∷ c ∷ []) = refl
-  kept-four empty (a ∷ b ∷ c ∷ d ∷ bs) = kept_full 4 (a ∷ b ∷ c ∷ d ∷ []) bs (omega arith)
+  pub placed-four : (empty : B) (parts : List B) → placed_from 0 (replicate 4 empty) parts ≡ four_of empty parts
+  unfolding placed_from four_of
+  placed-four empty [] = refl
+  placed-four empty (a ∷ []) = refl
+  placed-four empty (a ∷ b ∷ []) = refl
+  placed-four empty (a ∷ b ∷ c ∷ []) = refl
+  placed-four empty (a ∷ b ∷ c ∷ d ∷ parts) = placed_full 4 (a ∷ b ∷ c ∷ d ∷ []) parts (omega arith)
 
   pub map-four : (f : B → B) (empty : B) (bs : List B) → f empty ≡ empty → map f (four_of empty bs) ≡ four_of empty (map f bs)
   unfolding four_of
@@ -99,56 +77,35 @@ module _ {B : Type 0} where
   map-four f empty (a ∷ b ∷ c ∷ []) h = rw h
   map-four f empty (a ∷ b ∷ c ∷ d ∷ bs) h = refl
 
--- ---- the turns of the loop
+-- ---- a table of which the code has the parts in its own fields
 
--- The parts kept of those that came so far, and what is left: together they give what the whole gives.
-pub record Amounts {A B : Type 0} (f : A → B) (empty : B) (whole : Read (List A)) (count : ℕ) (parts : List B) (left : Read (List A)) : Type 0 where
-  pub first : kept count parts (map f left.value) ≡ four_of empty (map f whole.value)
-  pub all : count + length left.value ≡ length whole.value
-  pub rest : left.rest ≡ whole.rest
+module _ {A B : Type 0} (rows : List (Row A)) (f : A → B) where
+  abbrev changed : Read (List A) → Read (List B)
+  changed r = record { value = map f r.value; rest = r.rest }
 
--- The whole as the loop answers it: the first four, the count, and what is left of the text.
-abbrev pub Gives : {A B : Type 0} → (A → B) → B → Read (List A) → List B → ℕ → List ℕ → Type 0
-Gives f empty whole parts count t =
-    (parts ≡ four_of empty (map f whole.value)) × ((count ≡ length whole.value) × (t ≡ whole.rest))
-
-module _ {A B : Type 0} (rows : List (Row A)) (f : A → B) (empty : B) (whole : Read (List A)) where
-  pub left-whole : (left : Read (List A)) → left ≡ whole → Amounts f empty whole 0 (replicate 4 empty) left
-  left-whole left e = rw e (record { first = kept-four empty (map f whole.value); all = omega arith; rest = refl })
-
-  nothing_left : (count : ℕ) (parts : List B) (t : List ℕ) → Amounts f empty whole count parts (record { value = []; rest = t })
-      → Gives f empty whole parts count t
-  unfolding kept
-  nothing_left count parts t l = (l.first, ((let n = l.all in omega arith), l.rest))
-
-  pub left_end : (count : ℕ) (parts : List B) (k : ℕ) (t : List ℕ) → k ≡ 0 → Amounts f empty whole count parts (many_within rows k t)
-      → Gives f empty whole parts count t
-  unfolding many_within
-  left_end count parts zero t e l = nothing_left count parts t l
-  left_end count parts (suc k) t e l = absurd (omega arith)
-
-  pub left-none : (count : ℕ) (parts : List B) (k : ℕ) (t : List ℕ) → none ≡ map_read f (one_of rows t)
-      → Amounts f empty whole count parts (many_within rows k t) → Gives f empty whole parts count t
-  unfolding many_within
-  left-none count parts zero t e l = nothing_left count parts t l
-  left-none count parts (suc k) t e l = go (one_of rows t) e l
+  mapped-within : (most : ℕ) (t : List ℕ) → parts_within (λ t. map_read f (one_of rows t)) most t ≡ changed (many_within rows most t)
+  unfolding parts_within many_within
+  mapped-within zero t = refl
+  mapped-within (suc most) t = go (one_of rows t) (mapped-within most)
     where
-      go : (o : Option (Read A)) → none ≡ map_read f o → Amounts f empty whole count parts (followed t o (many_within rows k))
-          → Gives f empty whole parts count t
-      go none q m = nothing_left count parts t m
-      go (some r) q m = let z : ◌≡◌ {A = ℕ} 0 1 = cc in absurd (omega arith)
+      go : (o : Option (Read A)) → ((t : List ℕ) → parts_within (λ t. map_read f (one_of rows t)) most t ≡ changed (many_within rows most t))
+          → followed t (map_read f o) (parts_within (λ t. map_read f (one_of rows t)) most) ≡ changed (followed t o (many_within rows most))
+      go None more = refl
+      go (Some r) more = rw (more r.rest)
 
-  -- A part was read: it is kept, and counted.
-  pub left_one : (count : ℕ) (parts : List B) (j k : ℕ) (s t : List ℕ) (b : B) (next : ℕ) → j ≡ k + 1 → found s b next ≡ map_read f (one_of rows t)
-      → Amounts f empty whole count parts (many_within rows j t)
-      → Amounts f empty whole (count + 1) (kept_at count parts b) (many_within rows k (drop next s))
-  unfolding many_within kept
-  left_one count parts j k s t b next h e l = go (one_of rows t) e (rw (h, add-one) at l)
-    where
-      go : (o : Option (Read A)) → found s b next ≡ map_read f o → Amounts f empty whole count parts (followed t o (many_within rows k))
-          → Amounts f empty whole (count + 1) (kept_at count parts b) (many_within rows k (drop next s))
-      go none q m = let z : ◌≡◌ {A = ℕ} 0 1 = cc in absurd (omega arith)
-      go (some r) q m =
-          let x : b ≡ f r.value = ap (λ (a : Read B). a.value) (some-injective _ _ q) in
-          let y : drop next s ≡ r.rest = ap (λ (a : Read B). a.rest) (some-injective _ _ q) in
-          rw (x, y) (record { first = m.first; all = (let n = m.all in omega arith); rest = m.rest })
+  module _ (t : List ℕ) where
+    abbrev parts : Read (List B)
+    parts = parts_in (λ t. map_read f (one_of rows t)) t
+
+    mapped-parts : parts ≡ changed (many_of rows t)
+    mapped-parts = mapped-within (length t) t
+
+    pub first-parts : (none empty : B) {places : List B} → none ≡ empty → places ≡ placed_from 0 (none ∷ none ∷ none ∷ none ∷ []) parts.value
+        → places ≡ four_of empty (map f (many_of rows t).value)
+    first-parts none empty h e = rw (e, h, mapped-parts) (placed-four empty _)
+
+    pub parts-count : {n : ℕ} → n ≡ length parts.value → n ≡ length (many_of rows t).value
+    parts-count e = rw (e, mapped-parts) (length-map _ _)
+
+    pub parts-rest : {rest : List ℕ} → rest ≡ parts.rest → rest ≡ (many_of rows t).rest
+    parts-rest e = rw (e, mapped-parts)

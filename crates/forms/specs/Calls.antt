@@ -1,9 +1,7 @@
--- The call that a form makes (document 01, "The text the program tally reads": "N is the entry's number", and "The ledger": "with any
--- arguments"). Its numbers are those written, however large; `fitted-replies` shows that an entry or a drop judges the largest number of a
--- field as it judges any larger one.
-use Rattle.std.specs.Prelude.{ℕ, Bool, true, false, cond, List, ◌++◌, map, leb, length, take, replicate}
-use Rattle.std.proofs.Math.Option
-use Rattle.std.proofs.Math.Option.{Option, none, some}
+-- The call that a form makes (document 01, "The text the program tally reads": "N is the entry's number", and "The
+-- ledger": "with any arguments"). Its numbers are those written, however large; `fitted-replies` shows that an entry or
+-- a drop judges the largest number of a field as it judges any larger one.
+use Rattle.std.specs.Prelude.{ℕ, cond, List, ◌++◌, map, leb, length, take, replicate, Option, None, Some, option_map}
 use Rattle.std.specs.Float.{binary32}
 use Rattle.std.specs.Float.Ieee.{of_bits}
 use Rattle.metering.specs.Energy.{no_meter}
@@ -17,8 +15,6 @@ use Rattle.emissions.specs.declared.Margins.{Margins}
 use Rattle.emissions.specs.declared.CombinedMargin.{CombinedMargin}
 use Rattle.emissions.specs.declared.CombinedMargin.TheVariants.{Stated, Mean}
 use Rattle.emissions.specs.declared.GridEntry.{GridEntry}
-use Rattle.emissions.specs.declared.GridKind.TheVariants.{Thermal}
-use Rattle.emissions.specs.declared.Side.TheVariants.{Project}
 use Rattle.emissions.specs.declared.Supply.{Supply}
 use Rattle.emissions.specs.declared.Supply.TheVariants.{Combined, GridDefault, Captive, CaptiveDefault, Either}
 use Rattle.emissions.specs.declared.Loss.{Loss}
@@ -29,20 +25,24 @@ use Rattle.records.specs.declared.Plant.{Plant}
 use Rattle.records.specs.declared.SourceEntry.{SourceEntry}
 use Rattle.forms.specs.Form.{MeterForm, whole, single, WrittenPlant, Form, grid, margins, plant, source, drop_source, drop_plant, report}
 use Rattle.forms.specs.Reading.{line_form}
-use Rattle.forms.specs.declared.Kind.{Kind}
-use Rattle.forms.specs.declared.Kind.TheVariants.{NoForm, GridForm, PlantForm, SourceForm, ReportForm}
-use Rattle.forms.specs.declared.Line.{Line}
+use Rattle.forms.specs.declared.Call as declared
+use Rattle.forms.specs.declared.Call.TheVariants as line
 
 -- "A meter gains a ratio from 1 to 10,000, written before its sign; left out, it is 1" (document 02, wish 4).
 abbrev pub ratio_of : Option ℕ → ℕ
-ratio_of none = 1
-ratio_of (some ratio) = ratio
+ratio_of None = 1
+ratio_of (Some ratio) = ratio
 
--- A register is the binary32 value of its 32 bits ("an IEEE 754 binary32 register in kWh"); every pattern that is not a number is one value.
+-- A register is the binary32 value of its 32 bits ("an IEEE 754 binary32 register in kWh"); every pattern that is not a
+-- number is one value.
 abbrev pub meter_of : MeterForm → Meter
 meter_of (whole ratio sign first last) = record { ratio = ratio_of ratio; sign = sign; interval = Counts first last }
 meter_of (single ratio sign first last) =
-    record { ratio = ratio_of ratio; sign = sign; interval = Singles (record { first = of_bits binary32 first; last = of_bits binary32 last }) }
+    record {
+      ratio = ratio_of ratio;
+      sign = sign;
+      interval = Singles (record { first = of_bits binary32 first; last = of_bits binary32 last });
+    }
 
 -- An entry has four places: the first of the parts, and empty ones. It counts all parts.
 unfoldable pub four_of : {A : Type 0} → A → List A → List A
@@ -50,8 +50,8 @@ four_of empty parts = take 4 (parts ++ replicate 4 empty)
 
 -- "H zero or unstated means as before" (document 02, wish 5).
 abbrev pub heat_of : Option ℕ → ℕ
-heat_of none = 0
-heat_of (some H) = H
+heat_of None = 0
+heat_of (Some H) = H
 
 abbrev pub plant_of : WrittenPlant → Plant
 plant_of p =
@@ -66,17 +66,28 @@ plant_of p =
 unfoldable pub call_of : Form → Call
 call_of (grid F kind) = enter_grid (record { margin = Stated F; kind = kind })
 call_of (margins O B X Y kind) =
-    enter_grid (record { margin = Mean (record { operating = O; build = B; weights = record { operating = X; build = Y } }); kind = kind })
+    enter_grid
+    (record {
+      margin = Mean (record { operating = O; build = B; weights = record { operating = X; build = Y } });
+      kind = kind;
+    })
 call_of (plant N p) = enter_plant N (plant_of p)
 call_of (source N side supply loss meters) =
-    enter_source N (record { side = side; supply = supply; loss = loss; meters = four_of no_meter (map meter_of meters); count = length meters })
+    enter_source N
+    (record {
+      side = side;
+      supply = supply;
+      loss = loss;
+      meters = four_of no_meter (map meter_of meters);
+      count = length meters;
+    })
 call_of (drop_source N) = call.drop_source N
 call_of (drop_plant N) = call.drop_plant N
 call_of report = call.report
 
 -- The call of a line, where it is a form.
 unfoldable pub line_call : List ℕ → Option Call
-line_call line = Option.map call_of (line_form line)
+line_call line = option_map call_of (line_form line)
 
 -- ---- a call in the box's fields: a number larger than its field is the field's largest
 
@@ -168,27 +179,12 @@ fitted call.report = call.report
 abbrev pub fitted_call : Form → Call
 fitted_call f = fitted (call_of f)
 
--- ---- a line as it was read: its kind, its number, and an entry of each kind, of which at most one counts
+-- ---- a call as the code has it
 
--- The entries that do not count are the empty ones.
-abbrev pub empty_grid : GridEntry
-empty_grid = record { margin = Stated 0; kind = Thermal }
-
-abbrev pub empty_plant : Plant
-empty_plant = record { site = 0; generation = 0; heat = 0; lines = replicate 4 no_line; count = 0 }
-
-abbrev pub empty_source : SourceEntry
-empty_source = record { side = Project; supply = Combined; loss = Nothing; meters = replicate 4 no_meter; count = 0 }
-
-unfoldable pub plain_line : Kind → Bool → ℕ → ℕ → Line
-plain_line kind drops number next = record { kind = kind; drops = drops; number = number; grid = empty_grid; plant = empty_plant; source = empty_source; next = next }
-
--- The line that holds a call, with the place where its form ends; both are absent where there is no call. A call without a number has 0.
-unfoldable pub line_of : Option Call → ℕ → Line
-line_of none next = plain_line NoForm false 0 0
-line_of (some (enter_grid g)) next = record { kind = GridForm; drops = false; number = 0; grid = g; plant = empty_plant; source = empty_source; next = next }
-line_of (some (enter_plant n p)) next = record { kind = PlantForm; drops = false; number = n; grid = empty_grid; plant = p; source = empty_source; next = next }
-line_of (some (enter_source n e)) next = record { kind = SourceForm; drops = false; number = n; grid = empty_grid; plant = empty_plant; source = e; next = next }
-line_of (some (call.drop_plant n)) next = plain_line PlantForm true n next
-line_of (some (call.drop_source n)) next = plain_line SourceForm true n next
-line_of (some call.report) next = plain_line ReportForm false 0 next
+abbrev pub call_meaning : declared.Call → Call
+call_meaning (line.EnterGrid g) = enter_grid g
+call_meaning (line.EnterPlant n p) = enter_plant n p
+call_meaning (line.EnterSource n e) = enter_source n e
+call_meaning (line.DropPlant n) = call.drop_plant n
+call_meaning (line.DropSource n) = call.drop_source n
+call_meaning line.Report = call.report

@@ -1,24 +1,19 @@
 -- A fuel line (document 01, "Losses and factors", captive, and "Plant entry", number 2; document 02, wishes 2 and 5).
-use Rattle.std.specs.Prelude.{ℕ, ◌*◌, Bool, true, false, cond, ◌&&◌, List, [], ◌∷◌, leb}
-use Rattle.std.proofs.Math.Option.{Option, none, some}
-use Rattle.rounding.specs.Outcome.{Outcome, refused, given, refuse_unless}
+use Rattle.std.specs.Prelude.{ℕ, ◌*◌, Bool, true, false, cond, ◌&&◌, List, [], ◌∷◌, leb, Option, None, Some}
+use Rattle.rounding.specs.Outcome.{Outcome, given, refuse_unless}
 use Rattle.rounding.specs.Divided.{divided}
 use Rattle.rounding.specs.Ratio.{Ratio, ◌÷◌}
 use Rattle.rounding.specs.declared.Direction.{Direction}
 use Rattle.fuel.specs.declared.FuelKind.{FuelKind}
 use Rattle.fuel.specs.declared.FuelKind.TheVariants.{Energy, Mass, Volume}
 use Rattle.fuel.specs.declared.FuelLine.{FuelLine}
-use Rattle.fuel.specs.declared.Milligrams.{Milligrams}
-use Rattle.fuel.specs.declared.Milligrams.TheVariants.{Refused, Rounded}
-use Rattle.fuel.specs.declared.LineEnergy.{LineEnergy}
-use Rattle.fuel.specs.declared.LineEnergy.TheVariants.{Nothing, Stated}
 
 -- The empty line: what a place for a fuel line holds where there is none.
 abbrev pub no_line : FuelLine
 no_line = record { kind = Energy 0 0 0 }
 
--- What number 2 does not refuse: "Q above 100,000,000, V outside 1 to 150,000, or C above 200,000"; "Q keeps its limit, and W above 10,000 or a
--- density above 2,000 is refused 2".
+-- What number 2 does not refuse: "Q above 100,000,000, V outside 1 to 150,000, or C above 200,000"; "Q keeps its limit,
+-- and W above 10,000 or a density above 2,000 is refused 2".
 abbrev pub kind_fits : FuelKind → Bool
 kind_fits (Energy Q NCV C) = leb Q 100000000 && leb 1 NCV && leb NCV 150000 && leb C 200000
 kind_fits (Mass Q W) = leb Q 100000000 && leb W 10000
@@ -27,9 +22,9 @@ kind_fits (Volume Q density W) = leb density 2000 && (leb Q 100000000 && leb W 1
 unfoldable pub within_limits : FuelLine → Bool
 within_limits l = kind_fits l.kind
 
--- "Each fuel line .. gives Q × V × C ÷ 1,000 mg: Q quantity in mass or volume units, V net calorific value in kJ a unit, C in mg CO2 a MJ."
--- "By mass the line is Q × W × 1,100 ÷ 3 mg, by volume Q × density × W × 11 ÷ 30, from 44/12": Q in kg or litres, the density in g a litre, W
--- the carbon fraction in ten-thousandths.
+-- "Each fuel line .. gives Q × V × C ÷ 1,000 mg: Q quantity in mass or volume units, V net calorific value in kJ a
+-- unit, C in mg CO2 a MJ." "By mass the line is Q × W × 1,100 ÷ 3 mg, by volume Q × density × W × 11 ÷ 30, from 44/12":
+-- Q in kg or litres, the density in g a litre, W the carbon fraction in ten-thousandths.
 abbrev pub kind_milligrams : FuelKind → Ratio
 kind_milligrams (Energy Q NCV C) = (Q * NCV * C) ÷ 1000
 kind_milligrams (Mass Q W) = (Q * W * 1100) ÷ 3
@@ -45,11 +40,6 @@ rounded_milligrams dir l = divided dir (exact_milligrams l).plus (exact_milligra
 -- What the line gives, or refusal 2.
 unfoldable pub line_milligrams : Direction → FuelLine → Outcome ℕ
 line_milligrams dir l = refuse_unless 2 (within_limits l) (given (rounded_milligrams dir l))
-
--- What the code's answer means: the paper's number and value of each case.
-abbrev pub milligrams_meaning : Milligrams → Outcome ℕ
-milligrams_meaning Refused = refused 2
-milligrams_meaning (Rounded w) = given w
 
 -- ---- the energy of a line
 
@@ -76,11 +66,7 @@ abbrev pub states_energy : FuelLine → Bool
 states_energy l = is_energy l && within_limits l
 
 unfoldable pub stated_energy : FuelLine → Option ℕ
-stated_energy l = cond (states_energy l) (some (line_energy l)) none
-
-abbrev pub energy_meaning : LineEnergy → Option ℕ
-energy_meaning Nothing = none
-energy_meaning (Stated J) = some J
+stated_energy l = cond (states_energy l) (Some (line_energy l)) None
 
 -- ---- several lines
 

@@ -3,21 +3,12 @@
 #![tactic(auto)]
 
 ghost use Rattle.std.specs.Prelude.{◌≡◌, true};
+ghost use Rattle.rounding.specs.Outcome.{map_given, outcome_of};
 ghost use Rattle.rounding.specs.Ratio.{◌÷◌};
 ghost use Rattle.rounding.specs.declared.Direction.TheVariants.{Up, Down};
-ghost use Rattle.fuel.specs.declared.FuelKind.TheVariants.{Energy, Mass, Volume};
-ghost use Rattle.fuel.specs.Fuel.{
-  no_line,
-  kind_fits,
-  within_limits,
-  exact_milligrams,
-  line_milligrams,
-  milligrams_meaning,
-  stated_energy,
-  energy_meaning,
-};
+ghost use Rattle.fuel.specs.Fuel.{no_line, within_limits, exact_milligrams, line_milligrams, stated_energy};
 
-use rounding::Direction;
+use rounding::{Direction, Refusal};
 
 // The figures of a fuel line, by what the supplier states of the fuel.
 #[derive(Clone, Copy)]
@@ -55,25 +46,11 @@ struct Unrounded {
     divisor: u64,
 }
 
-// A line's milligrams of CO2, or that it is out of its limits (number 2).
-#[derive(Clone, Copy)]
-pub enum Milligrams {
-    Refused,
-    Rounded(u64),
-}
-
 // A line's milligrams rounded up and down, for project and leakage and for baseline.
 #[derive(Clone, Copy)]
 pub struct BothWays {
-    pub up: Milligrams,
-    pub down: Milligrams,
-}
-
-// A line's energy, Q × V in kJ, or that it states none: by carbon, or out of its limits (number 2).
-#[derive(Clone, Copy)]
-pub enum LineEnergy {
-    Nothing,
-    Stated(u64),
+    pub up: u64,
+    pub down: u64,
 }
 
 impl FuelLine {
@@ -103,34 +80,39 @@ impl FuelLine {
     }
 
     // Whether the line is within its limits; number 2 refuses a plant with a line that is not.
+    #[tactic(auto, unfolding(crate::specs::Fuel::within_limits))]
     pub fn is_within_limits(self) -> bool
         ensures { result ≡ within_limits self }
     {
-        let kind = self.kind;
-        match kind {
+        match self.kind {
             FuelKind::Energy {
                 quantity,
                 ncv,
                 factor,
-            } => energy_fits(quantity, ncv, factor),
-            FuelKind::Mass { quantity, carbon } => mass_fits(quantity, carbon),
+            } => quantity <= FuelLine::QUANTITY_LIMIT
+                && (FuelLine::NCV_LEAST..=FuelLine::NCV_LIMIT).contains(&ncv)
+                && factor <= FuelLine::FACTOR_LIMIT,
+            FuelKind::Mass { quantity, carbon } => quantity <= FuelLine::QUANTITY_LIMIT
+                && carbon <= FuelLine::CARBON_LIMIT,
             FuelKind::Volume {
                 quantity,
                 density,
                 carbon,
-            } => volume_fits(quantity, density, carbon),
+            } => density <= FuelLine::DENSITY_LIMIT
+                && quantity <= FuelLine::QUANTITY_LIMIT
+                && carbon <= FuelLine::CARBON_LIMIT,
         }
     }
 
     // The milligrams of CO2 of the line by its kind. Carbon becomes 44/12 of its mass in CO2: in the units of
     // the figures 1,100/3 of Q × W by mass and 11/30 of Q × density × W by volume. Within the limits no
     // product wraps.
+    #[tactic(auto, unfolding(crate::specs::Fuel::exact_milligrams, crate::specs::Fuel::within_limits))]
     fn unrounded(self) -> Unrounded
         requires { within_limits self ≡ true }
         ensures { (result.product ÷ result.divisor) ≡ exact_milligrams self }
     {
-        let kind = self.kind;
-        match kind {
+        match self.kind {
             FuelKind::Energy {
                 quantity,
                 ncv,
@@ -154,87 +136,34 @@ impl FuelLine {
         }
     }
 
-    // The milligrams of CO2 of the line, rounded both ways: so the limits are tested once, and one quotient serves
-    // both. Out of the limits nothing is computed, so that no product wraps at any value of the fields.
-    pub fn milligrams(self) -> BothWays
-        ensures up { milligrams_meaning result.up ≡ line_milligrams Up self }
-        ensures down { milligrams_meaning result.down ≡ line_milligrams Down self }
+    // The milligrams of CO2 of the line, rounded both ways, so that the limits are tested once; or refusal 2. Out of
+    // the limits nothing is computed, so that no product wraps at any value of the fields.
+    #[tactic(auto, unfolding(crate::specs::Fuel::line_milligrams, crate::specs::Fuel::rounded_milligrams))]
+    pub fn milligrams(self) -> Result<BothWays, Refusal>
+        ensures up { map_given (λ b. b.up) (outcome_of result) ≡ line_milligrams Up self }
+        ensures down { map_given (λ b. b.down) (outcome_of result) ≡ line_milligrams Down self }
     {
-        if self.is_within_limits() {
-            let exact = self.unrounded();
-            let up = rounding::divide(Direction::Up, exact.product, exact.divisor);
-            let down = rounding::divide(Direction::Down, exact.product, exact.divisor);
-            return BothWays {
-                up: Milligrams::Rounded(up),
-                down: Milligrams::Rounded(down),
-            };
+        if !self.is_within_limits() {
+            return Err(Refusal::OutOfLimits);
         }
-        BothWays {
-            up: Milligrams::Refused,
-            down: Milligrams::Refused,
-        }
+        let exact = self.unrounded();
+        Ok(BothWays {
+            up: rounding::divide(Direction::Up, exact.product, exact.divisor),
+            down: rounding::divide(Direction::Down, exact.product, exact.divisor),
+        })
     }
 
-    // The energy that the line states. Out of the limits it is none, so that a caller can sum up lines.
-    pub fn energy(self) -> LineEnergy
-        ensures { energy_meaning result ≡ stated_energy self }
+    // The energy that the line states, Q × V in kJ; none by carbon, or out of its limits, so that a caller can sum up
+    // lines.
+    #[tactic(auto, using(crate::proofs::Fuel::energy_by_kind))]
+    pub fn energy(self) -> Option<u64>
+        ensures { result ≡ stated_energy self }
     {
-        let kind = self.kind;
-        match kind {
-            FuelKind::Energy {
-                quantity,
-                ncv,
-                factor,
-            } => stated_energy(quantity, ncv, factor),
-            FuelKind::Mass { quantity, carbon } => LineEnergy::Nothing,
-            FuelKind::Volume {
-                quantity,
-                density,
-                carbon,
-            } => LineEnergy::Nothing,
+        match self.kind {
+            FuelKind::Energy { quantity, ncv, .. } if self.is_within_limits() => {
+                Some(quantity as u64 * ncv as u64)
+            }
+            _ => None,
         }
     }
-}
-
-fn stated_energy(quantity: u32, ncv: u32, factor: u32) -> LineEnergy
-    ensures { energy_meaning result ≡ stated_energy (record { kind = Energy quantity ncv factor }) }
-{
-    if energy_fits(quantity, ncv, factor) {
-        return LineEnergy::Stated(quantity as u64 * ncv as u64);
-    }
-    LineEnergy::Nothing
-}
-
-fn energy_fits(quantity: u32, ncv: u32, factor: u32) -> bool
-    ensures { result ≡ kind_fits (Energy quantity ncv factor) }
-{
-    if quantity > FuelLine::QUANTITY_LIMIT {
-        return false;
-    }
-    if ncv < FuelLine::NCV_LEAST {
-        return false;
-    }
-    if ncv > FuelLine::NCV_LIMIT {
-        return false;
-    }
-    factor <= FuelLine::FACTOR_LIMIT
-}
-
-fn mass_fits(quantity: u32, carbon: u32) -> bool
-    ensures { result ≡ kind_fits (Mass quantity carbon) }
-{
-    if quantity > FuelLine::QUANTITY_LIMIT {
-        return false;
-    }
-    carbon <= FuelLine::CARBON_LIMIT
-}
-
-// W and Q are limited as by mass.
-fn volume_fits(quantity: u32, density: u32, carbon: u32) -> bool
-    ensures { result ≡ kind_fits (Volume quantity density carbon) }
-{
-    if density > FuelLine::DENSITY_LIMIT {
-        return false;
-    }
-    mass_fits(quantity, carbon)
 }

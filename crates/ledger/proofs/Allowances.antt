@@ -1,9 +1,9 @@
--- The allowances where no source has K: 1 tonne a side and 200 kilograms for each of its sources, and 3 tonnes and 200 kilograms for each source in
--- the reduction, as document 01 has them. Assumes nothing.
+-- The allowances where no source has K: 1 tonne a side and 200 kilograms for each of its sources, and 3 tonnes and 200
+-- kilograms for each source in the reduction, as document 01 has them. Assumes nothing.
+use Rattle.std.specs.Prelude.{Option, None, Some}
 use Prim.Native.Nat.{ℕ, ◌+◌, ◌*◌}
 use mathlib.Core.Path.{◌≡◌, refl, sym, ap, subst, ◌∙◌}
 use mathlib.Core.List.{List, [], ◌∷◌, map}
-use mathlib.Core.Option.{Option, none, some}
 use native.Mathlib.Omega.{arith}
 use lib.Dec.{eqb}
 use lib.ListN.{length}
@@ -32,7 +32,7 @@ Equal x y = (x ≤ᵣ y) × (y ≤ᵣ x)
 
 -- No source among some figures has K.
 abbrev Plain : Standing → Figured → Type 0
-Plain s f = heat_ratio_of (sites_of s) (s.source f.number) ≡ none
+Plain s f = heat_ratio_of (sites_of s) (s.source f.number) ≡ None
 
 abbrev pub NoHeat : Standing → List Figured → Type 0
 NoHeat s fs = All (Plain s) fs
@@ -63,7 +63,7 @@ allowance-counted s side h =
 
 -- A figure is that of a standing entry, on the entry's side.
 abbrev OfEntry : Standing → Figured → Type 0
-OfEntry s f = (e : SourceEntry) × (s.source f.number ≡ some e) × (f.side ≡ e.side)
+OfEntry s f = (e : SourceEntry) × (s.source f.number ≡ Some e) × (f.side ≡ e.side)
 
 figures-entered : (s : Standing) (xs : List (Numbered Source)) → All (Shown s) xs → All (OfEntry s) (list_of (figures_from (input_of_standing s) xs))
 unfolding figures_from

@@ -1,14 +1,15 @@
--- How large an answer's numbers are: refusals and sources below 100, and a report's numbers within the paper's limits. Assumes nothing.
+-- How large an answer's numbers are: refusals and sources below 100, and a report's numbers within the paper's limits.
+-- Assumes nothing.
+use Rattle.std.specs.Prelude.{Option, None, Some}
 use Prim.Native.Nat.{ℕ, zero, suc, ◌+◌, ◌-◌, ◌≤◌, ◌<◌}
 use mathlib.Core.Path.{◌≡◌, refl}
 use mathlib.Core.Bool.{Bool, true, false, not, cond, ◌&&◌, ◌||◌}
 use mathlib.Core.List.{List}
-use mathlib.Core.Option.{Option, none, some}
 use mathlib.Core.Logic.{◌⊎◌, inl, inr}
 use native.Mathlib.Omega.{arith}
 use lib.Dec.{leb, ltb, eqb}
 use lib.IntN.{ℤ, pos, negsuc, nat_abs}
-use lib.ListN.{length, take}
+use lib.ListN.{length}
 use borrow.Author.Tests.{leb-true}
 use Rattle.rounding.specs.Divided.{divided}
 use Rattle.rounding.specs.declared.Direction.{Direction}
@@ -16,12 +17,8 @@ use Rattle.rounding.proofs.Tests.{and_both}
 use Rattle.rounding.proofs.Divided.{divided-at-most}
 use Rattle.rounding.proofs.Integers.{Differ}
 use Rattle.metering.specs.Reading.{limit}
-use Rattle.metering.specs.Energy.{all_meters, any_meter, has_ratio, is_accepted, runs_back, judged_readings, judged_meters, settled_energy, meters_refusal, energy_refusal}
+use Rattle.metering.specs.Energy.{judged_readings, judged_meters, settled_energy}
 use Rattle.metering.specs.declared.Meter.{Meter}
-use Rattle.metering.specs.declared.MetersJudged.{MetersJudged}
-use Rattle.metering.specs.declared.MetersJudged.TheVariants as metersJudged
-use Rattle.metering.specs.declared.EnergyJudged.{EnergyJudged}
-use Rattle.metering.specs.declared.EnergyJudged.TheVariants as energyJudged
 use Rattle.rounding.specs.Outcome.{Outcome, refused, given, refuse_unless, and_then}
 use Rattle.emissions.specs.Factor.{factor_limit, direction, is_entered, low_default, Site, grid_default, captive_judged, at_site, chosen}
 use Rattle.emissions.specs.Loss.{is_project, is_baseline, loss_of}
@@ -36,7 +33,7 @@ use Rattle.emissions.specs.declared.Loss.TheVariants.{Nothing, Measured, Default
 use Rattle.emissions.specs.declared.Consumption.{Consumption}
 use Rattle.emissions.specs.Grid.{margin_within_limits, weights_full, entered_grid, grid_judged}
 use Rattle.records.specs.Heat.{has_heat, fuel_energy, all_energy}
-use Rattle.records.specs.Judging.{on_read, on_energy, kept, source_judged, is_there, drop_judged, lines_of, all_within_limits, plant_judged, supply_within_limits, loss_within_limits, loss_matches}
+use Rattle.records.specs.Judging.{kept, source_judged, is_there, drop_judged, lines_of, all_within_limits, plant_judged, supply_within_limits, loss_within_limits, loss_matches}
 use Rattle.report.specs.Report.{ReportInput, Numbered, prepend_standing, standing, sources_of, plants_of, site_of, source_figure, Figured, Figures, declined, figured, with_figure, prepended, figures_from, of_side, SideReport, side_fits, side_report, reduction, Report, report_from, all_fit, Reply, ok, refused_with, refused_at, reported, damaged, reply_from, report_of, checked_report_of, acknowledged, intact}
 use Rattle.ledger.specs.Standing.{Call, enter_grid, enter_plant, enter_source, drop_plant, drop_source, report, answer}
 use Rattle.ledger.specs.Operations.{recorded, reply}
@@ -95,46 +92,28 @@ unfolding drop_judged
 drop-low last stands n =
     unless-low 1 (leb n last) _ (omega arith) (unless-low 7 stands _ (omega arith) (given-low tt))
 
-meters-low : (dir : Direction) (c : ℕ) (ms : List Meter) → meters_refusal (judged_meters dir c ms) < 100
+meters-low : (dir : Direction) (c : ℕ) (ms : List Meter) → Low (judged_meters dir c ms)
 unfolding judged_meters judged_readings
-meters-low dir c ms = go (leb 1 c && leb c 4 && all_meters has_ratio (take c ms)) (not (all_meters is_accepted (take c ms))) (any_meter runs_back (take c ms)) _ _
-  where
-    go : (a b d : Bool) (x y : ℕ)
-        → meters_refusal (cond a (cond b (metersJudged.Refused 3) (cond d (metersJudged.Refused 4) (metersJudged.Read x y))) (metersJudged.Refused 2)) < 100
-    go true true d x y = omega arith
-    go true false true x y = omega arith
-    go true false false x y = omega arith
-    go false b d x y = omega arith
+meters-low dir c ms =
+    unless-low 2 _ _ (omega arith) (unless-low 3 _ _ (omega arith) (unless-low 4 _ _ (omega arith) (given-low _)))
 
-energy-low : (adds takes : ℕ) → energy_refusal (settled_energy adds takes) < 100
+energy-low : (adds takes : ℕ) → Low (settled_energy adds takes)
 unfolding settled_energy
-energy-low adds takes = go (leb takes adds && leb adds (takes + limit)) (adds - takes)
-  where
-    go : (t : Bool) (E : ℕ) → energy_refusal (cond t (energyJudged.Accepted E) (energyJudged.Refused 6)) < 100
-    go true E = omega arith
-    go false E = omega arith
-
-read_low : {A : Type 0} (j : MetersJudged) (f : ℕ → ℕ → Outcome A) → meters_refusal j < 100 → ((x y : ℕ) → Low (f x y)) → Low (on_read j f)
-read_low (metersJudged.Refused n) f h k = refused-low n h
-read_low (metersJudged.Read x y) f h k = k x y
-
-settled-low : {A : Type 0} (j : EnergyJudged) (f : ℕ → Outcome A) → energy_refusal j < 100 → ((E : ℕ) → Low (f E)) → Low (on_energy j f)
-settled-low (energyJudged.Refused n) f h k = refused-low n h
-settled-low (energyJudged.Accepted E) f h k = k E
+energy-low adds takes = unless-low 6 (leb takes adds && leb adds (takes + limit)) _ (omega arith) (given-low (adds - takes))
 
 source-low : (n : ℕ) (e : SourceEntry) → Low (source_judged n e)
 unfolding source_judged
 source-low n e =
     unless-low 1 (leb n 31 && supply_within_limits e.supply) _ (omega arith)
     (unless-low 2 (loss_within_limits e.loss) _ (omega arith)
-    (read_low (judged_meters (direction e.side) e.count e.meters) _ (meters-low _ _ _) (λ x y.
+    (then-low (judged_meters (direction e.side) e.count e.meters) _ (meters-low _ _ _) (λ r.
     unless-low 5 (loss_matches e.supply e.loss) _ (omega arith)
-    (settled-low (settled_energy x y) _ (energy-low x y) (λ E.
+    (then-low (settled_energy r.adds r.takes) _ (energy-low r.adds r.takes) (λ E.
     given-low (kept e E))))))
 
 -- ---- the numbers of a report's refusals
 
-default-low : (grid : Grid) (c : Consumption) → Low (grid_default grid c)
+default-low : (grid : Option Grid) (c : Consumption) → Low (grid_default grid c)
 unfolding grid_default
 default-low grid c =
     cond-low (eqb c.baselines 0 || ltb c.baseline c.project) _ _ (given-low 1300000)
@@ -147,7 +126,7 @@ captive-low dir s =
     (unless-low 10 (leb (divided dir (s.milligrams dir) s.generation) factor_limit) _ (omega arith)
     (given-low (divided dir (s.milligrams dir) s.generation)))
 
-chosen-low : (dir : Direction) (grid : Grid) (captive_at : ℕ → Outcome ℕ) (c : Consumption) → ((S : ℕ) → Low (captive_at S)) → (s : Supply)
+chosen-low : (dir : Direction) (grid : Option Grid) (captive_at : ℕ → Outcome ℕ) (c : Consumption) → ((S : ℕ) → Low (captive_at S)) → (s : Supply)
     → Low (chosen dir grid captive_at c s)
 unfolding chosen
 chosen-low dir grid captive_at c h Combined = unless-low 8 (is_entered grid) _ (omega arith) (given-low _)
@@ -197,8 +176,8 @@ figures-counted b place from (suc count) h = go (place from) (figures-counted b 
   where
     go : (o : Option Source) → Counted count (figures_from b (standing place (suc from) count))
         → Counted (suc count) (figures_from b (prepend_standing from o (standing place (suc from) count)))
-    go none k = counted-more count (figures_from b (standing place (suc from) count)) k
-    go (some s) k =
+    go None k = counted-more count (figures_from b (standing place (suc from) count)) k
+    go (Some s) k =
         with-counted count (numbered from s) (source_figure b s) (figures_from b (standing place (suc from) count)) (omega arith) (figure-low b s) k
 
 -- ---- the numbers of a report

@@ -1,11 +1,10 @@
--- Lists of calls with their answers, by computation: demand 3 has reports to speak of, its constants cannot be smaller, and the rules are
--- told from others that its inequalities would allow. Assumes nothing.
+-- Lists of calls with their answers, by computation: demand 3 has reports to speak of, its constants cannot be smaller,
+-- and the rules are told from others that its inequalities would allow. Assumes nothing.
+use Rattle.std.specs.Prelude.{Some}
 use Prim.Native.Nat.{ℕ, ◌+◌, ◌*◌, ◌^◌, ◌<◌}
 use mathlib.Core.Path.{◌≡◌, refl, sym, ap, subst, ◌∙◌}
 use mathlib.Core.Bool.{Bool, true, false, cond, true≢false}
 use mathlib.Core.List.{List, [], ◌∷◌}
-use mathlib.Core.Option.{some}
-use native.Mathlib.Omega.{arith}
 use lib.Dec.{lit<, lit≤}
 use lib.IntN.{pos, negsuc}
 use lib.Ieee.{binary32, of_bits}
@@ -15,7 +14,7 @@ use Rattle.rounding.specs.Ratio.{Ratio, ◌÷◌, whole, integer, ◌≤ᵣ◌, 
 use Rattle.rounding.specs.declared.Direction.TheVariants.{Up, Down}
 use Rattle.rounding.specs.Calls.{after_calls, answers}
 use Rattle.metering.specs.Reading.{exact_register, is_readable_register}
-use Rattle.metering.specs.Energy.{exact_energy, rounded_adding, rounded_taking, all_meters, any_meter, judged_readings, judged_meters, settled_energy}
+use Rattle.metering.specs.Energy.{exact_energy, rounded_adding, rounded_taking, judged_readings, judged_meters, settled_energy}
 use Rattle.metering.specs.declared.Sign.{Sign}
 use Rattle.metering.specs.declared.Sign.TheVariants.{Plus, Minus}
 use Rattle.metering.specs.declared.Interval.TheVariants.{Counts, Singles}
@@ -30,8 +29,7 @@ use Rattle.emissions.specs.Figure.{energy_with_losses, grams_of, exact_grams, he
 use Rattle.emissions.specs.declared.GridKind.TheVariants.{Thermal}
 use Rattle.emissions.specs.declared.CombinedMargin.TheVariants.{Stated, Mean}
 use Rattle.emissions.specs.declared.GridEntry.{GridEntry}
-use Rattle.emissions.specs.declared.EnteredGrid.{EnteredGrid}
-use Rattle.emissions.specs.declared.Grid.TheVariants.{Entered}
+use Rattle.emissions.specs.declared.Grid.{Grid}
 use Rattle.emissions.specs.declared.Side.{Side}
 use Rattle.emissions.specs.declared.Side.TheVariants.{Project, Leakage, Baseline}
 use Rattle.emissions.specs.declared.Supply.{Supply}
@@ -42,7 +40,6 @@ use Rattle.emissions.proofs.Grids.{GridSound, sound-intact}
 use Rattle.emissions.specs.Grid.{grid_judged, grid_intact}
 use Rattle.records.specs.Heat.{fuel_energy}
 use Rattle.records.specs.Judging.{meters_of, source_judged, is_there, drop_judged, lines_of, plant_judged}
-use Rattle.records.specs.Records.{no_grid, no_plant, no_source, grid_record}
 use Rattle.report.specs.Heat.{lines_milligrams, exact_lines, allocated, exact_allocated, electricity_milligrams, exact_electricity, heated_energy}
 use Rattle.report.specs.Intact.{all_intact}
 use Rattle.report.specs.Report.{ReportInput, standing, selected, consumption, plant_milligrams, exact_plant, plant_heated, plants_at, site_of, sources_of, source_figure, Figured, Figures, declined, figured, figures_from, of_side, SideReport, side_report, Report, reduction, report_from, Reply, ok, refused_with, refused_at, reported, damaged, all_fit, reply_from, report_of, checked_report_of, acknowledged, intact}
@@ -125,7 +122,7 @@ zeros = totals 0 0 0
 
 -- The answers to a list of calls from a new ledger. `unfolding run` opens what they compute by.
 unfoldable pub run : List Call → List Reply
-unfolding answers step reply new_ledger no_grid no_plant no_source answer checked_report_of intact all_intact grid_judged lines_of all_lines line_energy is_energy fuel_energy plant_judged meters_of source_judged drop_judged within_limits exact_milligrams rounded_milligrams judged_meters judged_readings all_meters any_meter rounded_adding rounded_taking settled_energy sum divided exact_register is_readable_register of_bits standing selected consumption lines_milligrams allocated electricity_milligrams heated_energy plant_heated plant_milligrams plants_at site_of source_figure figures_from of_side side_report reduction report_from report_of rounded_combined margin grid_default captive_judged low_default chosen loss_of energy_with_losses grams_of figure_of
+unfolding answers step reply new_ledger answer checked_report_of intact all_intact grid_judged lines_of all_lines line_energy is_energy fuel_energy plant_judged meters_of source_judged drop_judged within_limits exact_milligrams rounded_milligrams judged_meters judged_readings rounded_adding rounded_taking settled_energy sum divided exact_register is_readable_register of_bits standing selected consumption lines_milligrams allocated electricity_milligrams heated_energy plant_heated plant_milligrams plants_at site_of source_figure figures_from of_side side_report reduction report_from report_of rounded_combined margin grid_default captive_judged low_default chosen loss_of energy_with_losses grams_of figure_of
 run calls = answers step reply new_ledger calls
 
 -- What stands after a list of calls. `unfolding stands` opens what its exact values compute by.
@@ -191,7 +188,8 @@ baseline-greater = refl
 
 -- ---- either: the greater factor for project, the smaller for baseline
 
--- A source of 1,000 kWh, so that its grams are its factor. The captive factor is 600,000.000001: 600,001 up, 600,000 down.
+-- A source of 1,000 kWh, so that its grams are its factor. The captive factor is 600,000.000001: 600,001 up, 600,000
+-- down.
 abbrev pub choosing_at : Side → Call → List Call
 choosing_at side grid =
     grid
@@ -229,8 +227,8 @@ baseline-takes-captive = refl
 abbrev pub Is : Ratio → ℕ → ℕ → Type 0
 Is x n d = (x.plus * d ≡ n * x.over) × (x.minus ≡ 0)
 
--- "of two equal factors under either, combined": the exact figure is 600,001 g, where captive would give 600,000.000001 g. One milligram less
--- in the margin, and it is captive.
+-- "of two equal factors under either, combined": the exact figure is 600,001 g, where captive would give 600,000.000001
+-- g. One milligram less in the margin, and it is captive.
 pub equal-takes-combined : Is (exact_side (stands (choosing Project 600001)) Project) 600001 1000000
 unfolding stands
 equal-takes-combined = (refl, refl)
@@ -245,7 +243,8 @@ greater-takes-captive = (refl, refl)
 abbrev pub all_kinds : ℕ → ℕ → Plant
 all_kinds S Q = plant4 S 1000 (fuel 1 1 1) (mass 1 1) (volume 1 1 1) (fuel Q 1 1000)
 
--- A project source on the one plant and a baseline source on the other, each of 1,000 kWh, so that its grams are its factor.
+-- A project source on the one plant and a baseline source on the other, each of 1,000 kWh, so that its grams are its
+-- factor.
 abbrev pub kind_calls : List Call
 kind_calls =
     enter_plant 0 (all_kinds 0 632)
@@ -255,8 +254,8 @@ kind_calls =
     ∷ report
     ∷ []
 
--- Rounded up the lines of the one come to 1,001 mg and its factor to 2, rounded down those of the other to 999 mg and 0. With any one of the three
--- lines rounded the other way it would be 1,000 mg and 1.
+-- Rounded up the lines of the one come to 1,001 mg and its factor to 2, rounded down those of the other to 999 mg and
+-- 0. With any one of the three lines rounded the other way it would be 1,000 mg and 1.
 pub kinds-rounded : run kind_calls
     ≡ ok ∷ ok ∷ ok ∷ ok ∷ reported (record { project = totals 1 2 1; leakage = zeros; baseline = totals 0 0 1; reduction = negsuc 0 }) ∷ []
 unfolding run
@@ -299,8 +298,9 @@ pub exact-weights : Is (exact_side (stands (margins 1 2 30 70 ∷ enter_source 0
 unfolding stands
 exact-weights = (refl, refl)
 
--- The mean is 600,000.5. Rounded each way it equals the captive factor rounded so, 600,001 and 600,000: combined is taken, and the exact figure
--- is the mean's. Rounded the other way captive would be taken, whose exact figure is 600,000.000001 grams.
+-- The mean is 600,000.5. Rounded each way it equals the captive factor rounded so, 600,001 and 600,000: combined is
+-- taken, and the exact figure is the mean's. Rounded the other way captive would be taken, whose exact figure is
+-- 600,000.000001 grams.
 abbrev pub near_captive : Call
 near_captive = margins 600000 600001 50 50
 
@@ -309,7 +309,8 @@ pub equal-mean-takes-combined : Is (exact_side (stands (choosing_at Project near
 unfolding stands
 equal-mean-takes-combined = ((refl, refl), (refl, refl))
 
--- "A margin above its limit is refused 2, then weights that don't sum to 100 are refused 15", whatever the weight of the margin.
+-- "A margin above its limit is refused 2, then weights that don't sum to 100 are refused 15", whatever the weight of
+-- the margin.
 pub two-before-fifteen : run (
     margins 10000001 0 60 60
     ∷ margins 0 10000001 100 0
@@ -354,7 +355,8 @@ on_one_site p =
 abbrev pub seven_kilojoules : ℕ → List Call
 seven_kilojoules H = on_one_site (heated 0 1000 H (fuel 1 3 1000) (fuel 1 4 1))
 
--- With 1 kJ of heat A is 3,000 ÷ 7 down, 428, and 6 × 428 ÷ 1,000 down is 2; without heat the lines' 3 mg stay. Rounded up they are 4, heat or not.
+-- With 1 kJ of heat A is 3,000 ÷ 7 down, 428, and 6 × 428 ÷ 1,000 down is 2; without heat the lines' 3 mg stay. Rounded
+-- up they are 4, heat or not.
 pub heat-rounded : ((sites_of (stands (seven_kilojoules 1)) 0).milligrams Down ≡ 2)
     × ((sites_of (stands (seven_kilojoules 0)) 0).milligrams Down ≡ 3)
     × ((sites_of (stands (seven_kilojoules 1)) 0).milligrams Up ≡ 4)
@@ -368,7 +370,8 @@ pub exact-heat : Is (exact_side (stands (seven_kilojoules 1)) Baseline) 18024 70
 unfolding stands
 exact-heat = ((refl, refl), (refl, refl), (refl, refl))
 
--- Beside it a plant without heat, 5.001 mg over 500 kWh: each plant is allocated by itself, and K is the 7 kJ of the one over the site's 1,500 kWh.
+-- Beside it a plant without heat, 5.001 mg over 500 kWh: each plant is allocated by itself, and K is the 7 kJ of the
+-- one over the site's 1,500 kWh.
 abbrev pub beside_heat : List Call
 beside_heat =
     enter_plant 0 (heated 0 1000 1 (fuel 1 3 1000) (fuel 1 4 1))
@@ -378,7 +381,7 @@ beside_heat =
 
 pub heat-by-plant : ((sites_of (stands beside_heat) 0).milligrams Down ≡ 7)
     × Is (exact_side (stands beside_heat) Baseline) 53031 10500000000000
-    × (heat_ratio (sites_of (stands beside_heat) 0) ≡ some (7 ÷ 1500000))
+    × (heat_ratio (sites_of (stands beside_heat) 0) ≡ Some (7 ÷ 1500000))
 unfolding stands
 heat-by-plant = (refl, (refl, refl), refl)
 
@@ -391,15 +394,16 @@ pub heat-for-baseline : run (on_one_site half_heat)
 unfolding run
 heat-for-baseline = refl
 
--- K is 43. The limit with K, 1 + (13 × (1,593,150 + 2 + 43) + (2 + 43) × 1,000,000) ÷ 1,000,000 = 66.711535 g, stands in place of 200 kilograms,
--- where it is the smaller too; the project source has no K.
+-- K is 43. The limit with K, 1 + (13 × (1,593,150 + 2 + 43) + (2 + 43) × 1,000,000) ÷ 1,000,000 = 66.711535 g, stands
+-- in place of 200 kilograms, where it is the smaller too; the project source has no K.
 pub heat-allowances : Is (side_allowance (stands (on_one_site half_heat)) Baseline) 1000066711535 1000000000000
     × Is (side_allowance (stands (on_one_site half_heat)) Project) 1200 1000
     × Is (reduction_allowance (stands (on_one_site half_heat))) 3200066711535 1000000000000
 unfolding stands
 heat-allowances = ((refl, refl), (refl, refl), (refl, refl))
 
--- "baseline sources that name the site" have K, also one that takes combined there: 1 + (13 × (500,000 + 2 + 43) + (2 + 43) × 1,000,000) ÷ 1,000,000.
+-- "baseline sources that name the site" have K, also one that takes combined there: 1 + (13 × (500,000 + 2 + 43) + (2 +
+-- 43) × 1,000,000) ÷ 1,000,000.
 abbrev pub either_with_heat : List Call
 either_with_heat =
     thermal 500000 ∷ enter_plant 0 half_heat ∷ enter_source 0 (source Baseline (Either 0) (Measured 0) (counts Plus 0 1000000)) ∷ []
@@ -412,8 +416,8 @@ pub combined-with-heat : (figures_of (stands either_with_heat) ≡ either_figure
 unfolding stands
 combined-with-heat = (refl, (refl, refl))
 
--- "Heat above 0 beside a carbon line is refused 16, then heat above J is refused 17, both after 2." Heat of all of J, heat 0 beside a carbon line and
--- a carbon line that does not count are accepted; without fuel lines J is 0.
+-- "Heat above 0 beside a carbon line is refused 16, then heat above J is refused 17, both after 2." Heat of all of J,
+-- heat 0 beside a carbon line and a carbon line that does not count are accepted; without fuel lines J is 0.
 pub heat-refusals : run (
     enter_plant 8 (heated 0 1000 9 (mass 1 1) (fuel 1 0 1))
     ∷ enter_plant 0 (heated 0 1000 9 (mass 1 1) (fuel 1 0 1))
@@ -489,15 +493,16 @@ ratio-before-reading = refl
 
 -- ---- "A reading's exact value is multiplied by it before rounding"
 
--- A feeder behind a transformer of 10,000, whose register went from 0 to 8,589,935 ÷ 2^33 kWh, the next above 0.001, on a grid of 10,000,000 mg/kWh.
+-- A feeder behind a transformer of 10,000, whose register went from 0 to 8,589,935 ÷ 2^33 kWh, the next above 0.001, on
+-- a grid of 10,000,000 mg/kWh.
 abbrev pub behind : Side → SourceEntry
 behind side = source side Combined (Measured 0) (singles_by 10000 Plus 0 0x3a83126f)
 
 abbrev pub behind_calls : List Call
 behind_calls = thermal 10000000 ∷ enter_source 0 (behind Project) ∷ enter_source 1 (behind Baseline) ∷ report ∷ []
 
--- E is 10,001 up and 10,000 down, where a register rounded up before the ratio would give 20,000. The exact value of a side is 8,589,935 ÷ 2^33 kWh
--- × 10,000 × 10 kg/kWh.
+-- E is 10,001 up and 10,000 down, where a register rounded up before the ratio would give 20,000. The exact value of a
+-- side is 8,589,935 ÷ 2^33 kWh × 10,000 × 10 kg/kWh.
 pub ratio-before-rounding : (energy_of (behind Project) ≡ 10001)
     × (energy_of (behind Baseline) ≡ 10000)
     × Is (exact_side (stands behind_calls) Project) 858993500 (2 ^ 33)
@@ -545,8 +550,9 @@ pub not-12 : (figures_of (stands eight_readings) ≡ eight_readings_figure ∷ [
 unfolding stands
 not-12 = (refl, lit≤ tt)
 
--- 32 fuel lines, each nearly a milligram off, over 1,000 kWh: the captive factor is 999,691 up and 999,689 down, where the exact one is about
--- 999,689.97, and either takes it on every side. Each side's grams are next to a whole tonne, on its worse side.
+-- 32 fuel lines, each nearly a milligram off, over 1,000 kWh: the captive factor is 999,691 up and 999,689 down, where
+-- the exact one is about 999,689.97, and either takes it on every side. Each side's grams are next to a whole tonne, on
+-- its worse side.
 abbrev pub plant_of : FuelLine → Plant
 plant_of l = plant4 0 125 (fuel 1 1 1) (fuel 1 1 1) (fuel 1 1 1) l
 
@@ -686,7 +692,7 @@ many_heats_figure =
 
 -- K is 18,547,666 ÷ 1,000,000. The gap, 2,937,496 g, against 2,932,151 g with 1 + K for 2 + K at U.
 pub not-1-with-K : (figures_of (stands many_heats) ≡ many_heats_figure ∷ [])
-    × (heat_ratio (sites_of (stands many_heats) 0) ≡ some (18547666 ÷ 1000000))
+    × (heat_ratio (sites_of (stands many_heats) 0) ≡ Some (18547666 ÷ 1000000))
     × (whole 1 +ᵣ ((whole 13 *ᵣ (whole (30344 + 2) +ᵣ 18547666 ÷ 1000000) +ᵣ (whole 1 +ᵣ 18547666 ÷ 1000000) *ᵣ whole 150000000000) per 1000000)
     ≤ᵣ gap (stands many_heats) many_heats_figure)
 unfolding stands
@@ -695,16 +701,16 @@ not-1-with-K = (refl, refl, lit≤ tt)
 -- ---- `damaged`
 
 report-never-damaged : (x : Figures) → reply_from x ≡ damaged → ⊥
-report-never-damaged (declined n k) e = let z : ◌≡◌ {A = ℕ} 0 1 = cc in omega arith
+report-never-damaged (declined n k) e = cc
 report-never-damaged (figured fs) e = go (all_fit (report_from fs)) e
   where
     go : (t : Bool) → cond t (reported (report_from fs)) (refused_with 13) ≡ damaged → ⊥
-    go true e = let z : ◌≡◌ {A = ℕ} 0 1 = cc in omega arith
-    go false e = let z : ◌≡◌ {A = ℕ} 0 1 = cc in omega arith
+    go true e = cc
+    go false e = cc
 
 entry-never-damaged : {A : Type 0} (o : Outcome A) → acknowledged o ≡ damaged → ⊥
-entry-never-damaged (refused n) e = let z : ◌≡◌ {A = ℕ} 0 1 = cc in omega arith
-entry-never-damaged (given a) e = let z : ◌≡◌ {A = ℕ} 0 1 = cc in omega arith
+entry-never-damaged (refused n) e = cc
+entry-never-damaged (given a) e = cc
 
 answer-never-damaged : (b : ReportInput) (c : Call) → answer b c ≡ damaged → ⊥
 unfolding answer report_of
@@ -720,15 +726,15 @@ pub never-damaged : (calls : List Call) (i : ℕ) → i < length calls → get_o
 never-damaged calls i h e = answer-never-damaged _ _ (sym (claim-at calls i h report ok).answered ∙ e)
 
 -- A ledger with a grid and nothing else.
-abbrev pub grid_only : EnteredGrid → Ledger
-grid_only g = record { grid = grid_record g; plants = new_ledger.plants; sources = new_ledger.sources }
+abbrev pub grid_only : Grid → Ledger
+grid_only g = record { grid = Some g; plants = new_ledger.plants; sources = new_ledger.sources }
 
 -- A margin above the limit.
-abbrev pub above_limit : EnteredGrid
+abbrev pub above_limit : Grid
 above_limit = record { entry = record { margin = Stated 10000001; kind = Thermal }; up = 10000001; down = 10000001 }
 
 -- The mean of 3 and 4, and 4 in place of 3 where it is rounded down.
-abbrev pub other_rounding : EnteredGrid
+abbrev pub other_rounding : Grid
 other_rounding = record { entry = weighted 3 4 50 50; up = 4; down = 4 }
 
 -- A ledger with such a grid is answered so, and no list of calls leaves it.
@@ -736,8 +742,8 @@ pub are-damaged : (reply (grid_only above_limit) report ≡ damaged) × (reply (
 unfolding run
 are-damaged = (refl, refl)
 
-pub no-calls-leave-it : (g : EnteredGrid) → grid_intact (Entered g) ≡ false → (calls : List Call) → after_calls step new_ledger calls ≡ grid_only g → ⊥
+pub no-calls-leave-it : (g : Grid) → grid_intact (Some g) ≡ false → (calls : List Call) → after_calls step new_ledger calls ≡ grid_only g → ⊥
 no-calls-leave-it g d calls e =
     let h = records-show calls in
-    let same = sym (ap (λ (b : ReportInput). b.grid) h.same) ∙ ap (λ (l : Ledger). l.grid.grid) e in
-    true≢false (sym (sound-intact (Entered g) (subst GridSound same h.accepted.grid)) ∙ d)
+    let same = sym (ap (λ (b : ReportInput). b.grid) h.same) ∙ ap (λ (l : Ledger). l.grid) e in
+    true≢false (sym (sound-intact (Some g) (subst GridSound same h.accepted.grid)) ∙ d)

@@ -1,9 +1,10 @@
--- Each standing source's figure stands on the safe side of its exact figure, and so do the sides and the reduction. Assumes nothing.
+-- Each standing source's figure stands on the safe side of its exact figure, and so do the sides and the reduction.
+-- Assumes nothing.
+use Rattle.std.specs.Prelude.{Option, None, Some}
 use Prim.Native.Nat.{ℕ, ◌<◌, ◌≤◌, zero-le}
 use mathlib.Core.Path.{◌≡◌, refl, sym, ap, subst, ◌∙◌}
 use mathlib.Core.Bool.{Bool, true, false, cond}
 use mathlib.Core.List.{List, [], ◌∷◌, map}
-use mathlib.Core.Option.{Option, none, some}
 use native.Mathlib.Omega.{arith}
 use native.Mathlib.Nat.{mul-pos}
 use lib.Dec.{eqb}
@@ -25,7 +26,7 @@ use Rattle.emissions.proofs.Factors.{FactorSound, chosen-sound}
 use Rattle.emissions.proofs.Losses.{loss-limit}
 use Rattle.emissions.proofs.Figures.{figure-conservative, figure-within-allowance, figure-over, limit-over, allowance-over}
 use Rattle.records.specs.Judging.{meters_of, kept}
-use Rattle.report.specs.Report.{Numbered, sources_of, plants_of, consumption, compares_factor, compares_loss, captive_at, source_figure, Figured, Figures, declined, figured, with_figure, figures_from, side_index, of_side, grams_in, side_report, Report, report_from, refused_with, refused_at, reported, all_fit, reply_from, report_of}
+use Rattle.report.specs.Report.{Numbered, sources_of, plants_of, consumption, compares_factor, compares_loss, captive_at, source_figure, Figured, Figures, declined, figured, with_figure, figures_from, side_index, of_side, grams_in, side_report, Report, report_from, refused_with, reported, all_fit, reply_from, report_of}
 use Rattle.ledger.specs.Standing.{Standing, energy_of, kept_of, grid_of, input_of_standing}
 use Rattle.ledger.specs.Exact.{figured_at, exact_energy_of, sites_of, exact_figure, gap, list_of, figures_of, exact_side, exact_reduction, heat_ratio_of, limit_of, allowance_of, side_allowance, reduction_allowance}
 use Rattle.ledger.specs.Claim.{SourceSafe, SideSafe, ReportSafe}
@@ -40,8 +41,8 @@ use Rattle.report.proofs.Lists.{numbered, never-some, standing-all, standing-at,
 -- Everything that stands was accepted.
 pub record Accepted (s : Standing) : Type 0 where
   pub grid : GridSound (grid_of s.grid)
-  pub plant : (n : ℕ) (p : Plant) → s.plant n ≡ some p → PlantFacts n p
-  pub source : (n : ℕ) (e : SourceEntry) → s.source n ≡ some e → SourceFacts n e
+  pub plant : (n : ℕ) (p : Plant) → s.plant n ≡ Some p → PlantFacts n p
+  pub source : (n : ℕ) (e : SourceEntry) → s.source n ≡ Some e → SourceFacts n e
 
 -- Grams g on the safe side of an exact figure x, within a limit l and an allowance a.
 pub record GramsSafe (dir : Direction) (g : ℕ) (x l a : Ratio) : Type 0 where
@@ -61,7 +62,7 @@ energy-over e = unit-above-zero
 -- ---- one source
 
 -- The figure by its option and its loss.
-module _ (s : Standing) (h : Accepted s) (n : ℕ) (e : SourceEntry) (at : s.source n ≡ some e) (x : Chosen) (T : ℕ)
+module _ (s : Standing) (h : Accepted s) (n : ℕ) (e : SourceEntry) (at : s.source n ≡ Some e) (x : Chosen) (T : ℕ)
     (hc : chosen (direction e.side) (grid_of s.grid) (captive_at (direction e.side) (plants_of (input_of_standing s))) (consumption compares_factor (sources_of (input_of_standing s))) e.supply
     ≡ given x)
     (hT : loss_of (direction e.side) (consumption compares_loss (sources_of (input_of_standing s))) e.loss ≡ given T) where
@@ -111,7 +112,7 @@ module _ (s : Standing) (h : Accepted s) (n : ℕ) (e : SourceEntry) (at : s.sou
       subst (λ (o : Option SourceEntry). GramsSafe dir (grams_of dir U F) (exact_grams (exact_energy_of o) T exact_f) (gap_limit (heat_ratio_of (sites_of s) o) F U)
       (gap_allowance (heat_ratio_of (sites_of s) o) F U)) (sym at) entry-safe
 
-pub source-safe : (s : Standing) → Accepted s → (n : ℕ) (e : SourceEntry) → s.source n ≡ some e → (f : Figure)
+pub source-safe : (s : Standing) → Accepted s → (n : ℕ) (e : SourceEntry) → s.source n ≡ Some e → (f : Figure)
     → source_figure (input_of_standing s) (kept e (energy_of e)) ≡ given f → FiguredSafe s (figured_at n e f)
 unfolding source_figure
 source-safe s h n e at f q =
@@ -124,11 +125,11 @@ source-safe s h n e at f q =
 
 -- A source that a report reads is that of a standing entry.
 abbrev pub Shown : Standing → Numbered Source → Type 0
-Shown s x = (e : SourceEntry) × (s.source x.number ≡ some e) × (x.item ≡ kept e (energy_of e))
+Shown s x = (e : SourceEntry) × (s.source x.number ≡ Some e) × (x.item ≡ kept e (energy_of e))
 
-shown : (s : Standing) (n : ℕ) (a : Source) (o : Option SourceEntry) → s.source n ≡ o → kept_of o ≡ some a → Shown s (numbered n a)
-shown s n a none p q = absurd (never-some q)
-shown s n a (some e) p q = (e, p, cc)
+shown : (s : Standing) (n : ℕ) (a : Source) (o : Option SourceEntry) → s.source n ≡ o → kept_of o ≡ Some a → Shown s (numbered n a)
+shown s n a None p q = absurd (never-some q)
+shown s n a (Some e) p q = (e, p, cc)
 
 pub all_shown : (s : Standing) → All (Shown s) (sources_of (input_of_standing s))
 all_shown s = standing-all (input_of_standing s).source (Shown s) 0 32 (λ n a q l u. shown s n a (s.source n) refl q)
@@ -140,9 +141,6 @@ Counted s x = (f : Figure) × (source_figure (input_of_standing s) x.item ≡ gi
 -- Where no source is refused, each has a figure, and every figure is safe.
 abbrev Whole : Standing → List (Numbered Source) → List Figured → Type 0
 Whole s xs fs = All (Counted s) xs × All (FiguredSafe s) fs
-
-never-figured : {n k : ℕ} {fs : List Figured} → declined n k ≡ figured fs → ⊥
-never-figured e = let z : ◌≡◌ {A = ℕ} 0 1 = cc in omega arith
 
 figures-whole : (s : Standing) → Accepted s → (xs : List (Numbered Source)) → All (Shown s) xs → (fs : List Figured)
     → figures_from (input_of_standing s) xs ≡ figured fs → Whole s xs fs
@@ -159,8 +157,8 @@ figures-whole s h (x ∷ xs) k fs e =
 
     go : (o : Outcome Figure) (r : Figures) → source_figure (input_of_standing s) x.item ≡ o → figures_from (input_of_standing s) xs ≡ r → with_figure x o r ≡ figured fs
         → ((gs : List Figured) → figures_from (input_of_standing s) xs ≡ figured gs → Whole s xs gs) → Whole s (x ∷ xs) fs
-    go (refused n) r p q w ih = absurd (never-figured w)
-    go (given f) (declined n j) p q w ih = absurd (never-figured w)
+    go (refused n) r p q w ih = absurd (cc)
+    go (given f) (declined n j) p q w ih = absurd (cc)
     go (given f) (figured gs) p q w ih =
         let z : record { number = x.number; side = x.item.side; figure = f } ∷ gs ≡ fs = cc in
         (((f, p), (ih gs q).0), subst (All (FiguredSafe s)) z (safe f p, (ih gs q).1))
@@ -220,7 +218,7 @@ module _ (s : Standing) (h : Accepted s) (fs : List Figured) (e : figures_from (
       subst (λ (gs : List Figured). SideSafe s side (side_report side gs)) (ap list_of e)
       (side-safe s side (subst (All (FiguredSafe s)) (sym (ap list_of e)) all-safe.1))
 
-  each-source : (n : ℕ) (a : SourceEntry) → s.source n ≡ some a → (f : Figure) × SourceSafe s n a f
+  each-source : (n : ℕ) (a : SourceEntry) → s.source n ≡ Some a → (f : Figure) × SourceSafe s n a f
   unfolding gap
   each-source n a at =
       let c = standing-at (input_of_standing s).source (Counted s) 0 32 all-safe.0 n (kept a (energy_of a)) (ap kept_of at) zero-le
@@ -267,16 +265,10 @@ pub report-safe : (s : Standing) → Accepted s → (r : Report) → report_of (
 unfolding report_of
 report-safe s h r q = go (figures_from (input_of_standing s) (sources_of (input_of_standing s))) refl q
   where
-    never-at : {n k : ℕ} → refused_at n k ≡ reported r → ⊥
-    never-at e = let z : ◌≡◌ {A = ℕ} 0 1 = cc in omega arith
-
-    never-with : {n : ℕ} → refused_with n ≡ reported r → ⊥
-    never-with e = let z : ◌≡◌ {A = ℕ} 0 1 = cc in omega arith
-
     fitted : (t : Bool) (r' : Report) → cond t (reported r') (refused_with 13) ≡ reported r → r' ≡ r
     fitted true r' e = cc
-    fitted false r' e = absurd (never-with e)
+    fitted false r' e = cc
 
     go : (x : Figures) → figures_from (input_of_standing s) (sources_of (input_of_standing s)) ≡ x → reply_from x ≡ reported r → ReportSafe s r
-    go (declined n k) e w = absurd (never-at w)
+    go (declined n k) e w = absurd (cc)
     go (figured fs) e w = subst (ReportSafe s) (fitted (all_fit (report_from fs)) (report_from fs) w) (figures-safe s h fs e)

@@ -1,5 +1,5 @@
--- A side's tonnes and the reduction stand on the safe side of their exact values, within the allowances, for any figures that each stand
--- within an allowance of their own. Assumes nothing.
+-- A side's tonnes and the reduction stand on the safe side of their exact values, within the allowances, for any
+-- figures that each stand within an allowance of their own. Assumes nothing.
 use Prim.Native.Nat.{ℕ, ◌+◌, ◌*◌, ◌<◌}
 use mathlib.Core.Path.{◌≡◌, sym, ap, subst, ◌∙◌}
 use mathlib.Core.List.{List, map}
@@ -17,7 +17,8 @@ use Rattle.rounding.specs.Lists.{All}
 use Rattle.rounding.proofs.Ratio.{Within, sum-within, within-divided}
 use Rattle.report.specs.Report.{reduction}
 
--- A side: figures in grams that each stand within an allowance of an exact value. The tonnes are off by less than all of them and 1 tonne.
+-- A side: figures in grams that each stand within an allowance of an exact value. The tonnes are off by less than all
+-- of them and 1 tonne.
 pub side-conservative : {A : Type 0} (dir : Direction) (value : A → ℕ) (exact allowance : A → Ratio) (fs : List A)
     → All (λ (f : A). Within dir (value f) (exact f) (allowance f)) fs → 0 < (sumᵣ (map exact fs)).over → 0 < (sumᵣ (map allowance fs)).over
     → Conservative dir (divided dir (sum (map value fs)) 1000000) (sumᵣ (map exact fs) per 1000000) (sumᵣ (map allowance fs) per 1000000 +ᵣ whole 1)

@@ -12,8 +12,9 @@ use Rattle.rounding.specs.Outcome.{Outcome, refused, given}
 use Rattle.emissions.specs.Factor.{captive_judged}
 use Rattle.emissions.specs.Figure.{energy_with_losses}
 
--- What a row says: a register's watt-hours without a transformer, by ratio 1, down and up, or their refusal; a fuel line's milligrams; a captive
--- factor of so many milligrams over so many kWh, down and up; a loss T on an energy E, down and up.
+-- What a row says: a register's watt-hours without a transformer, by ratio 1, down and up, or their refusal; a fuel
+-- line's milligrams; a captive factor of so many milligrams over so many kWh, down and up; a loss T on an energy E,
+-- down and up.
 pub data Row : Type 0 where
   register : ℕ → Outcome ℕ → Outcome ℕ → Row
   fuel_line : FuelLine → ℕ → Row
@@ -21,7 +22,9 @@ pub data Row : Type 0 where
   losses : ℕ → ℕ → ℕ → ℕ → Row
 
 abbrev pub Right : Row → Type 0
-Right (register bits down up) = (watt_hours Down 1 (Single (of_bits binary32 bits)) ≡ down) × (watt_hours Up 1 (Single (of_bits binary32 bits)) ≡ up)
+Right (register bits down up) =
+    (watt_hours Down 1 (Single (of_bits binary32 bits)) ≡ down)
+    × (watt_hours Up 1 (Single (of_bits binary32 bits)) ≡ up)
 Right (fuel_line l mg) = (rounded_milligrams Down l ≡ mg) × (rounded_milligrams Up l ≡ mg)
 Right (captive mg G down up) = (captive_judged Down mg G ≡ down) × (captive_judged Up mg G ≡ up)
 Right (losses E T down up) = (energy_with_losses Down E T ≡ down) × (energy_with_losses Up E T ≡ up)

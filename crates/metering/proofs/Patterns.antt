@@ -1,5 +1,5 @@
--- The exact value of a register by the exponent field and the digits of its bit pattern, which patterns number 3 refuses, and the order
--- of patterns. Assumes nothing.
+-- The exact value of a register by the exponent field and the digits of its bit pattern, which patterns number 3
+-- refuses, and the order of patterns. Assumes nothing.
 use mathlib.Core.Path.{◌≡◌, refl, sym, ap, ◌∙◌, subst}
 use mathlib.Core.Logic.{◌⊎◌, inl, inr}
 use mathlib.Core.Bool.{Bool, true, false, not, ◌&&◌, cond, true≢false}
@@ -10,9 +10,8 @@ use native.Mathlib.Omega.{arith}
 use lib.Dec.{T, leb, ltb, eqb}
 use lib.Pow.{pow_pos, pow_mono}
 use lib.IntN.{ℤ}
-use lib.Ieee.{Float, nan, inf, fin, binary32, up, down, odd, of_fields, of_bits, to_bits, fits, is_nan, ne}
+use lib.Ieee.{Float, nan, inf, fin, binary32, up, down, odd, of_fields, of_bits, to_bits, fits, is_nan}
 use lib.Ieee.Bits.{of_bits-to_bits}
-use lib.Ieee.Compare.{differs_from_itself, nan_differs}
 use lib.Ieee.Exact.{HasValue, odd_sign}
 use lib.Ieee.Fits.{down_pos}
 use lib.Ieee.Positive.{first_pos}
@@ -90,7 +89,8 @@ mid-is s x t h = simp (ne_eqb (suc x) 255 (λ e. omega arith))
 value : (s : Bool) (x t : ℕ) → x < 255 → HasValue (of_fields binary32 s x t) s (size x t) (2 ^ 149)
 value s zero t h = subst (λ (a : ℕ). HasValue (of_fields binary32 s 0 t) s a (2 ^ 149)) (mul-one t) (low s t)
 value s (suc x) t h =
-    subst (λ (v : Float). HasValue v s ((8388608 + t) * 2 ^ x) (2 ^ 149)) (sym (mid-is s x t h)) (odd_sign 24 s (8388608 + t) x 149)
+    subst (λ (v : Float). HasValue v s ((8388608 + t) * 2 ^ x) (2 ^ 149)) (sym (mid-is s x t h))
+    (odd_sign 24 s (8388608 + t) x 149)
 
 at_top : (s : Bool) (t : ℕ) → of_fields binary32 s 255 t ≡ cond (eqb t 0) (inf s) nan
 unfolding of_fields
@@ -104,7 +104,9 @@ no_number false s = refl
 -- The field is below 255, or the pattern is that of an infinity or a NaN.
 finite-or-not : (b : ℕ) → (field_of b < 255) ⊎ (of_bits binary32 b ≡ cond (eqb (digits_of b) 0) (inf (is_minus b)) nan)
 finite-or-not b = elim (eq-or-lt_of_le (top b)) [
-  | inl e ↦ inr (fields b ∙ ap (λ (x : ℕ). of_fields binary32 (is_minus b) x (digits_of b)) e ∙ at_top (is_minus b) (digits_of b))
+  | inl e ↦ inr (fields b
+      ∙ ap (λ (x : ℕ). of_fields binary32 (is_minus b) x (digits_of b)) e
+      ∙ at_top (is_minus b) (digits_of b))
   | inr l ↦ inl l
 ]
   where
@@ -145,14 +147,16 @@ number_at : (b : ℕ) → b ≤ 2147483648 → field_of b < 255 → is_readable_
 number_at b h l = elim (eq-or-lt_of_le h) [
   | inl e ↦ ap (λ (x : ℕ). is_readable_register (of_bits binary32 x)) e ∙ minus-zero
   | inr k ↦ not-below (of_bits binary32 b) (pattern_size b) (2 ^ 149)
-      (subst (λ (s : Bool). HasValue (of_bits binary32 b) s (pattern_size b) (2 ^ 149)) (lt-leb 2147483648 b k) (pattern-value b l))
+      (subst (λ (s : Bool). HasValue (of_bits binary32 b) s (pattern_size b) (2 ^ 149)) (lt-leb 2147483648 b k)
+      (pattern-value b l))
 ]
 
 pub below_at : (b : ℕ) → b < 4294967296 → 2147483648 < b → is_readable_register (of_bits binary32 b) ≡ false
 below_at b w h = elim (number-or-not b) [
   | inl l ↦ below-zero (of_bits binary32 b) (pattern_size b) (2 ^ 149)
       (size-pos (field_of b) (digits_of b) (omega arith))
-      (subst (λ (s : Bool). HasValue (of_bits binary32 b) s (pattern_size b) (2 ^ 149)) (le-leb 2147483648 b (omega arith))
+      (subst (λ (s : Bool). HasValue (of_bits binary32 b) s (pattern_size b) (2 ^ 149))
+      (le-leb 2147483648 b (omega arith))
       (pattern-value b l))
   | inr e ↦ e
 ]
@@ -169,7 +173,8 @@ accepted-at ratio b h l =
     ap (λ (t : Bool). t && leb (exact_register (of_bits binary32 b) * ratio) (limit * unit)) (number_at b h l)
     ∙ ap (λ (n : ℕ). leb (n * ratio) (limit * unit)) (exact-at b l)
 
--- From field 154 a magnitude is above the limit. The unit is a variable: `omega` takes no number of more than 38 digits.
+-- From field 154 a magnitude is above the limit. The unit is a variable: `omega` takes no number of more than 38
+-- digits.
 magnitude-beyond : (x t : ℕ) → 153 < x → limit * unit < magnitude x t
 unfolding magnitude
 magnitude-beyond zero t h = absurd (not-suc-le-zero h)
@@ -187,7 +192,8 @@ magnitude-beyond (suc x) t h =
     over a u p h = omega (arith, mul-lt-mul_of_pos_right h p)
 
 -- So is its product with every ratio.
-pub beyond-at : (ratio b : ℕ) → 1 ≤ ratio → b ≤ 2147483648 → 153 < field_of b → accepted ratio (Single (of_bits binary32 b)) ≡ false
+pub beyond-at : (ratio b : ℕ) → 1 ≤ ratio → b ≤ 2147483648 → 153 < field_of b
+    → accepted ratio (Single (of_bits binary32 b)) ≡ false
 beyond-at ratio b p h k = elim (number-or-not b) [
   | inl l ↦ accepted-at ratio b h l ∙ lt-leb _ _ (more (limit * unit) _ (magnitude-beyond (field_of b) (digits_of b) k))
   | inr e ↦ no-number-refused ratio (of_bits binary32 b) e
@@ -196,17 +202,13 @@ beyond-at ratio b p h k = elim (number-or-not b) [
     more : (m n : ℕ) → m < n → m < n * ratio
     more m n l = omega (arith, mul-le-mul_left n p)
 
--- ---- what a test of a float with itself says
+-- ---- what the test for a NaN says
 
-pub no_nan : (x : Float) → ne x x ≡ false → T (not (is_nan x))
-unfolding is_nan
-no_nan nan h = absurd (true≢false (sym nan_differs ∙ h))
-no_nan (inf s) h = tt
-no_nan (fin s m e) h = tt
-
-pub nan-refused : (ratio : ℕ) (x : Float) → ne x x ≡ true → accepted ratio (Single x) ≡ false
-unfolding is_readable_register
-nan-refused ratio x h = no-number-refused ratio x (ap is_readable_register (differs_from_itself x (subst T (sym h) tt)))
+pub nan-refused : (ratio : ℕ) (x : Float) → is_nan x ≡ true → accepted ratio (Single x) ≡ false
+unfolding is_readable_register is_nan
+nan-refused ratio nan h = refl
+nan-refused ratio (inf s) h = refl
+nan-refused ratio (fin s m e) h = absurd (true≢false (sym h))
 
 pub accepted-number : (ratio : ℕ) (x : Float) → accepted ratio (Single x) ≡ true → is_readable_register x ≡ true
 accepted-number ratio x h = (and_both (is_readable_register x) _ h).0
@@ -247,8 +249,10 @@ size_of k = size (k / 8388608) (k % 8388608)
 
 size-order : (a b : ℕ) → a < b → size_of a < size_of b
 size-order a b h = elim (eq-or-lt_of_le (fields-order a b h)) [
-  | inl e ↦ subst (λ (x : ℕ). size_of a < size x (digits_of b)) e (size-digits (a / 8388608) (digits_of a) (digits_of b) (digits-order a b h e))
-  | inr l ↦ lt_of_lt_of_le (size-under (a / 8388608) (digits_of a) (omega arith)) (size-over (a / 8388608) (b / 8388608) (digits_of b) l)
+  | inl e ↦ subst (λ (x : ℕ). size_of a < size x (digits_of b)) e
+      (size-digits (a / 8388608) (digits_of a) (digits_of b) (digits-order a b h e))
+  | inr l ↦ lt_of_lt_of_le (size-under (a / 8388608) (digits_of a) (omega arith))
+      (size-over (a / 8388608) (b / 8388608) (digits_of b) l)
 ]
   where
     fields-order : (a b : ℕ) → a < b → a / 8388608 ≤ b / 8388608
@@ -260,7 +264,8 @@ size-order a b h = elim (eq-or-lt_of_le (fields-order a b h)) [
 number-field : (b : ℕ) → is_readable_register (of_bits binary32 b) ≡ true → field_of b < 255
 number-field b h = elim (number-or-not b) [ inl l ↦ l | inr e ↦ absurd (true≢false (sym h ∙ e)) ]
 
-exact_key : (x : Float) → T (fits binary32 x) → is_readable_register x ≡ true → exact_register x ≡ 1000 * size_of (to_bits binary32 x % 2147483648)
+exact_key : (x : Float) → T (fits binary32 x) → is_readable_register x ≡ true
+    → exact_register x ≡ 1000 * size_of (to_bits binary32 x % 2147483648)
 exact_key x f h =
     let b = to_bits binary32 x in
     let r = of_bits-to_bits binary32 x f in
@@ -273,8 +278,10 @@ exact_key x f h =
     digits b = omega arith
 
 -- The patterns of two numbers, read as integers without the sign, are in the order of their exact values.
-pub pattern-order : (x y : Float) → T (fits binary32 x) → T (fits binary32 y) → is_readable_register x ≡ true → is_readable_register y ≡ true
-    → ltb (to_bits binary32 x % 2147483648) (to_bits binary32 y % 2147483648) ≡ ltb (exact_register x) (exact_register y)
+pub pattern-order : (x y : Float) → T (fits binary32 x) → T (fits binary32 y) → is_readable_register x ≡ true
+    → is_readable_register y ≡ true
+    → ltb (to_bits binary32 x % 2147483648) (to_bits binary32 y % 2147483648)
+    ≡ ltb (exact_register x) (exact_register y)
 pattern-order x y f g h k =
     let a = to_bits binary32 x % 2147483648 in
     ltb-kept (λ (n : ℕ). 1000 * size_of n) keeps a (to_bits binary32 y % 2147483648)
@@ -307,7 +314,8 @@ exact-register s m e f =
     (subst (λ (v : Float). HasValue v (is_minus b) (pattern_size b) (2 ^ 149)) r
     (pattern-value b (finite-field b s m e r)))
   where
-    cross : (z : Bool) (a : ℕ) → HasValue (fin s m e) z a unit → exact_register (fin s m e) * down e ≡ 1000 * (m * up e) * unit
+    cross : (z : Bool) (a : ℕ) → HasValue (fin s m e) z a unit
+        → exact_register (fin s m e) * down e ≡ 1000 * (m * up e) * unit
     cross z a h =
         ap (λ (x : ℕ). x * down e) (exact-of (fin s m e) z a h)
         ∙ mul_assoc 1000 a (down e)

@@ -1,6 +1,6 @@
 -- A reading's whole watt-hours: when they are given, and how near they are to the exact value. Assumes nothing.
 use mathlib.Core.Path.{◌≡◌, refl, sym, ap, ◌∙◌}
-use mathlib.Core.Bool.{Bool, true, false, ◌&&◌}
+use mathlib.Core.Bool.{Bool, true, false}
 use Prim.Native.Nat.{ℕ, ◌*◌, ◌≤◌, ◌<◌}
 use native.Mathlib.Nat.{mul-le-mul_left, mul-le-mul_right, mul-lt-mul_of_pos_right}
 use native.Mathlib.Omega.{arith}
@@ -9,12 +9,11 @@ use lib.Pow.{pow_pos}
 use borrow.Author.Tests.{le-leb, lt-leb, leb-true, leb-false}
 use Rattle.rounding.specs.declared.Direction.{Direction}
 use Rattle.rounding.specs.declared.Direction.TheVariants.{Up}
-use Rattle.rounding.specs.Outcome.{refused, given, refuse_unless}
+use Rattle.rounding.specs.Outcome.{refused, given}
 use Rattle.rounding.specs.Divided.{divided}
 use Rattle.rounding.specs.Ratio.{◌÷◌, whole, Conservative}
 use Rattle.rounding.proofs.Divided.{rounds, divided-at-most, divided-up-bounds, divided-whole}
 use Rattle.rounding.proofs.Ratio.{rounds-conservative}
-use Rattle.rounding.proofs.Outcomes.{never-given, given_is, test-held}
 use Rattle.rounding.proofs.Tests.{and_both}
 use Rattle.metering.specs.Reading.{unit, limit, exact_by, is_readable, ratio_fits, accepted, watt_hours}
 use Rattle.metering.specs.declared.Reading.{Reading}
@@ -28,30 +27,12 @@ pub ratio-above-zero : (ratio : ℕ) → ratio_fits ratio ≡ true → 1 ≤ rat
 ratio-above-zero ratio h = leb-true 1 ratio (and_both (leb 1 ratio) _ h).0
 
 module _ (dir : Direction) (ratio : ℕ) (r : Reading) where
-  pub rounded : (q : ℕ) → ratio_fits ratio ≡ true → accepted ratio r ≡ true → divided dir (exact_by ratio r) unit ≡ q → given q ≡ watt_hours dir ratio r
+  pub rounded : (q : ℕ) → ratio_fits ratio ≡ true → accepted ratio r ≡ true → divided dir (exact_by ratio r) unit ≡ q
+      → given q ≡ watt_hours dir ratio r
   rounded q f a e = sym (rw (f, a, e))
-
-  pub out_of_range : ratio_fits ratio ≡ false → refused 2 ≡ watt_hours dir ratio r
-  out_of_range f = sym (rw f)
 
   pub declined : ratio_fits ratio ≡ true → accepted ratio r ≡ false → refused 3 ≡ watt_hours dir ratio r
   declined f a = sym (rw (f, a))
-
-  -- And back.
-  pub was-rounded : (q : ℕ) → watt_hours dir ratio r ≡ given q
-      → (ratio_fits ratio ≡ true) × (accepted ratio r ≡ true) × (divided dir (exact_by ratio r) unit ≡ q)
-  was-rounded q e =
-      let f = test-held 2 (ratio_fits ratio) _ e in
-      let p = test-held 3 (accepted ratio r) (given (divided dir (exact_by ratio r) unit)) f.1 in
-      (f.0, p.0, given_is p.1)
-
-  pub was-declined : (n : ℕ) → watt_hours dir ratio r ≡ refused n → (ratio_fits ratio && accepted ratio r) ≡ false
-  was-declined n e = go (ratio_fits ratio) (accepted ratio r) e
-    where
-      go : (f t : Bool) → refuse_unless 2 f (refuse_unless 3 t (given (divided dir (exact_by ratio r) unit))) ≡ refused n → (f && t) ≡ false
-      go true true h = absurd (never-given (sym h))
-      go true false h = refl
-      go false t h = refl
 
   pub rounded-within : accepted ratio r ≡ true → divided dir (exact_by ratio r) unit ≤ limit
   rounded-within h =
@@ -61,7 +42,8 @@ module _ (dir : Direction) (ratio : ℕ) (r : Reading) where
   -- A reading's watt-hours stand on the safe side of its exact value in Wh, less than 1 Wh off.
   pub reading-conservative : Conservative dir (divided dir (exact_by ratio r) unit) (exact_by ratio r ÷ unit) (whole 1)
   reading-conservative =
-      rounds-conservative dir (exact_by ratio r) unit (divided dir (exact_by ratio r) unit) (rounds dir (exact_by ratio r) unit unit-above-zero)
+      rounds-conservative dir (exact_by ratio r) unit (divided dir (exact_by ratio r) unit)
+      (rounds dir (exact_by ratio r) unit unit-above-zero)
 
 -- An exact value is within the limit exactly where it is, rounded up.
 pub limit-rounded : (x : ℕ) → leb x (limit * unit) ≡ leb (divided Up x unit) limit
@@ -71,7 +53,9 @@ limit-rounded x = go (leb (divided Up x unit) limit) refl
     beyond u k above h = omega (arith, rounds Up x u above, mul-le-mul_right u h)
 
     go : (t : Bool) → leb (divided Up x unit) limit ≡ t → leb x (limit * unit) ≡ t
-    go true e = le-leb x (limit * unit) (divided-up-bounds x unit limit unit-above-zero (leb-true (divided Up x unit) limit e))
+    go true e =
+        le-leb x (limit * unit)
+        (divided-up-bounds x unit limit unit-above-zero (leb-true (divided Up x unit) limit e))
     go false e = lt-leb x (limit * unit) (beyond unit limit unit-above-zero (leb-false (divided Up x unit) limit e))
 
 -- ---- a whole reading
@@ -92,7 +76,8 @@ module _ (dir : Direction) (ratio w : ℕ) (f : ratio_fits ratio ≡ true) where
       (ap (λ (n : ℕ). divided dir n unit) product ∙ divided-whole dir (w * ratio) unit unit-above-zero)
 
   pub whole-beyond : limit < w * ratio → refused 3 ≡ watt_hours dir ratio (Whole w)
-  whole-beyond k = declined dir ratio (Whole w) f (judged false (lt-leb _ _ (mul-lt-mul_of_pos_right k unit-above-zero)))
+  whole-beyond k =
+      declined dir ratio (Whole w) f (judged false (lt-leb _ _ (mul-lt-mul_of_pos_right k unit-above-zero)))
 
   -- A count above the limit is so by every ratio.
   pub count-beyond : limit < w → refused 3 ≡ watt_hours dir ratio (Whole w)

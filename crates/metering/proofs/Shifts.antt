@@ -2,7 +2,8 @@
 use mathlib.Core.Path.{◌≡◌, refl, sym, ap, ◌∙◌}
 use mathlib.Core.Logic.{◌⊎◌, inl, inr, ◌≢◌}
 use Prim.Native.Nat.{ℕ, zero, suc, ◌+◌, ◌-◌, ◌*◌, ◌/◌, ◌%◌, ◌^◌, ◌≤◌, ◌<◌}
-use native.Mathlib.Nat.{div-add-mod', div-eq_of_lt, div-mul-le_self, mod-eq_of_lt, mul-le-mul_right, lt_of_lt_of_le, lt_of_le_of_lt}
+use native.Mathlib.Nat.{div-add-mod', div-eq_of_lt, div-mul-le_self, mod-eq_of_lt, mul-le-mul_right, lt_of_lt_of_le}
+use native.Mathlib.Nat.{lt_of_le_of_lt}
 use native.Mathlib.Omega.{arith}
 use lib.Pow.{pow_pos, pow_mono, pow-add}
 use Rattle.rounding.specs.declared.Direction.{Direction}
@@ -34,7 +35,8 @@ significand-bound : (field digits s : ℕ) → digits < 8388608 → Significand 
 significand-bound field digits s h (inl w) = omega arith
 significand-bound field digits s h (inr w) = omega arith
 
-magnitude-by : (field digits s : ℕ) → Significand field digits s → s * 8000 * 2 ^ (field - 1) ≡ magnitude field digits * 8
+magnitude-by : (field digits s : ℕ) → Significand field digits s
+    → s * 8000 * 2 ^ (field - 1) ≡ magnitude field digits * 8
 unfolding magnitude
 magnitude-by zero digits s (inl w) = rw w.1 (omega arith)
 magnitude-by zero digits s (inr w) = absurd (w.0 refl)
@@ -51,9 +53,11 @@ magnitude-by (suc x) digits s (inr w) = ap (λ (k : ℕ). s * 8000 * 2 ^ k) (les
     go p = omega arith
 
 -- The count of a register times a ratio, in eighths of 1,000 units.
-magnitude-times : (field digits s r : ℕ) → Significand field digits s → s * 8000 * r * 2 ^ (field - 1) ≡ magnitude field digits * r * 8
+magnitude-times : (field digits s r : ℕ) → Significand field digits s
+    → s * 8000 * r * 2 ^ (field - 1) ≡ magnitude field digits * r * 8
 magnitude-times field digits s r sig =
-    swap s r (2 ^ (field - 1)) ∙ ap (λ (n : ℕ). n * r) (magnitude-by field digits s sig) ∙ last (magnitude field digits) r
+    swap s r (2 ^ (field - 1)) ∙ ap (λ (n : ℕ). n * r) (magnitude-by field digits s sig)
+    ∙ last (magnitude field digits) r
   where
     swap : (s r p : ℕ) → s * 8000 * r * p ≡ s * 8000 * p * r
     swap s r p = omega arith
@@ -62,14 +66,16 @@ magnitude-times field digits s r sig =
     last x r = omega arith
 
 -- A ratio of 16 bits leaves the count below 2 ^ 53.
-pub count-bound : (field digits s r : ℕ) → digits < 8388608 → r < 65536 → Significand field digits s → s * 8000 * r < 2 ^ 53
+pub count-bound : (field digits s r : ℕ) → digits < 8388608 → r < 65536 → Significand field digits s
+    → s * 8000 * r < 2 ^ 53
 count-bound field digits s r l b sig = go s r (significand-bound field digits s l sig) b
   where
     go : (s r : ℕ) → s < 16777216 → r < 65536 → s * 8000 * r < 2 ^ 53
     go s r a c = omega (arith, mul-le-mul_right (8000 * r) a, mul-le-mul_right (8000 * 16777216) c)
 
 -- Eight units are 2 ^ 152.
-pub shifted_by : (dir : Direction) (field digits s k r : ℕ) → field ≤ 153 → digits < 8388608 → r < 65536 → Significand field digits s → Shift field k
+pub shifted_by : (dir : Direction) (field digits s k r : ℕ) → field ≤ 153 → digits < 8388608 → r < 65536
+    → Significand field digits s → Shift field k
     → divided dir (s * 8000 * r) (2 ^ k) ≡ divided dir (magnitude field digits * r) unit
 shifted_by dir field digits s k r h l b sig sh =
     places sh

@@ -1,6 +1,8 @@
--- A source's energy from its meters (document 01, "From register to watt-hours", second paragraph, and "Source entry", numbers 2, 3, 4, 6; document
--- 02, wish 4).
-use Rattle.std.specs.Prelude.{ℕ, ◌+◌, ◌-◌, Bool, true, false, not, cond, ◌&&◌, ◌||◌, List, [], ◌∷◌, map, leb, ltb, take}
+-- A source's energy from its meters (document 01, "From register to watt-hours", second paragraph, and "Source entry",
+-- numbers 2, 3, 4, 6; document 02, wish 4).
+use Rattle.std.specs.Prelude.{ℕ, ◌+◌, ◌-◌, Bool, not, ◌&&◌, List, map, leb, ltb, take}
+use Rattle.std.specs.List.{list_all, list_any}
+use Rattle.rounding.specs.Outcome.{Outcome, given, refuse_unless}
 use Rattle.rounding.specs.Divided.{divided, opposite, sum}
 use Rattle.rounding.specs.Ratio.{Ratio}
 use Rattle.rounding.specs.declared.Direction.{Direction}
@@ -12,10 +14,7 @@ use Rattle.metering.specs.declared.Sign.TheVariants.{Plus, Minus}
 use Rattle.metering.specs.declared.Interval.{Interval}
 use Rattle.metering.specs.declared.Interval.TheVariants.{Counts, Singles}
 use Rattle.metering.specs.declared.Meter.{Meter}
-use Rattle.metering.specs.declared.MetersJudged.{MetersJudged}
-use Rattle.metering.specs.declared.MetersJudged.TheVariants as metersJudged
-use Rattle.metering.specs.declared.EnergyJudged.{EnergyJudged}
-use Rattle.metering.specs.declared.EnergyJudged.TheVariants as energyJudged
+use Rattle.metering.specs.declared.RoundedReadings.{RoundedReadings}
 
 -- "a first and a last reading, both of one kind".
 abbrev pub first_of : Interval → Reading
@@ -26,8 +25,8 @@ abbrev pub last_of : Interval → Reading
 last_of (Counts f l) = Whole l
 last_of (Singles r) = Single r.last
 
--- "A meter's energy is last minus first", and the exact energy "is the sum of the + meters less the - meters": the last reading of a
--- + meter and the first of a - meter add to the energy, and the other two are taken from it.
+-- "A meter's energy is last minus first", and the exact energy "is the sum of the + meters less the - meters": the last
+-- reading of a + meter and the first of a - meter add to the energy, and the other two are taken from it.
 abbrev pub adding_of : Sign → Interval → Reading
 adding_of Plus i = last_of i
 adding_of Minus i = first_of i
@@ -51,8 +50,9 @@ exact_energy ms =
       over = unit;
     }
 
--- "For a project or leakage source a + meter takes last up and first down, and a - meter takes last down and first up; for a baseline
--- source each is the opposite": what adds is rounded in the source's direction, what is taken in the opposite one.
+-- "For a project or leakage source a + meter takes last up and first down, and a - meter takes last down and first up;
+-- for a baseline source each is the opposite": what adds is rounded in the source's direction, what is taken in the
+-- opposite one.
 unfoldable pub rounded_adding : Direction → List Meter → ℕ
 rounded_adding dir ms = sum (map (λ (m : Meter). divided dir (exact_by m.ratio (adding m)) unit) ms)
 
@@ -71,43 +71,26 @@ is_accepted m = accepted m.ratio (first_of m.interval) && accepted m.ratio (last
 abbrev pub runs_back : Meter → Bool
 runs_back m = ltb (exact_by m.ratio (last_of m.interval)) (exact_by m.ratio (first_of m.interval))
 
-unfoldable pub all_meters : (Meter → Bool) → List Meter → Bool
-all_meters p [] = true
-all_meters p (m ∷ ms) = p m && all_meters p ms
-
-unfoldable pub any_meter : (Meter → Bool) → List Meter → Bool
-any_meter p [] = false
-any_meter p (m ∷ ms) = p m || any_meter p ms
-
 -- "Each number is tested over all meters before the next."
-unfoldable pub judged_readings : Direction → List Meter → MetersJudged
+unfoldable pub judged_readings : Direction → List Meter → Outcome RoundedReadings
 judged_readings dir ms =
-    cond (not (all_meters is_accepted ms)) (metersJudged.Refused 3)
-    (cond (any_meter runs_back ms) (metersJudged.Refused 4)
-    (metersJudged.Read (rounded_adding dir ms) (rounded_taking dir ms)))
+    refuse_unless 3 (list_all is_accepted ms)
+    (refuse_unless 4 (not (list_any runs_back ms))
+    (given record { adds = rounded_adding dir ms; takes = rounded_taking dir ms }))
 
 -- "A source has 1 to 4 meters."
 abbrev pub meters_limit : ℕ
 meters_limit = 4
 
 -- "2 meters not 1 to 4", or a ratio outside its range; the source's meters are the first `count` ones.
-unfoldable pub judged_meters : Direction → ℕ → List Meter → MetersJudged
+unfoldable pub judged_meters : Direction → ℕ → List Meter → Outcome RoundedReadings
 judged_meters dir count ms =
-    cond (leb 1 count && leb count meters_limit && all_meters has_ratio (take count ms)) (judged_readings dir (take count ms)) (metersJudged.Refused 2)
+    refuse_unless 2 (leb 1 count && leb count meters_limit && list_all has_ratio (take count ms))
+    (judged_readings dir (take count ms))
 
 -- "The signed sum of these is E, in Wh, accepted from 0 to 100,000,000,000"; "6 E below 0 or above its limit".
-unfoldable pub settled_energy : ℕ → ℕ → EnergyJudged
-settled_energy adds takes =
-    cond (leb takes adds && leb adds (takes + limit)) (energyJudged.Accepted (adds - takes)) (energyJudged.Refused 6)
-
--- The number of a refusal; 0 where nothing was refused.
-abbrev pub meters_refusal : MetersJudged → ℕ
-meters_refusal (metersJudged.Refused n) = n
-meters_refusal (metersJudged.Read adds takes) = 0
-
-abbrev pub energy_refusal : EnergyJudged → ℕ
-energy_refusal (energyJudged.Refused n) = n
-energy_refusal (energyJudged.Accepted E) = 0
+unfoldable pub settled_energy : ℕ → ℕ → Outcome ℕ
+settled_energy adds takes = refuse_unless 6 (leb takes adds && leb adds (takes + limit)) (given (adds - takes))
 
 -- The empty meter: what a place for a meter holds where there is none.
 abbrev pub no_meter : Meter

@@ -1,17 +1,19 @@
--- What the steps inside this layer answer. Only contracts of private functions cite these; the rules are in `Reading` and `Energy`.
-use Rattle.std.specs.Prelude.{ℕ, zero, suc, ◌+◌, ◌*◌, ◌^◌, Bool, cond, ◌&&◌, List}
+-- What the steps inside this layer answer. Only contracts of private functions cite these; the rules are in `Reading`
+-- and `Energy`.
+use Rattle.std.specs.Prelude.{ℕ, zero, suc, ◌+◌, ◌*◌, ◌^◌, Bool, ◌&&◌, List}
+use Rattle.std.specs.List.{list_all, list_any}
+use Rattle.rounding.specs.Outcome.{Outcome, given, refuse_unless}
 use Rattle.rounding.specs.Divided.{divided, opposite}
 use Rattle.rounding.specs.declared.Direction.{Direction}
 use Rattle.rounding.specs.declared.Direction.TheVariants.{Up, Down}
 use Rattle.metering.specs.Reading.{unit, exact_by}
-use Rattle.metering.specs.Energy.{adding, taking, has_ratio, is_accepted, runs_back, rounded_adding, rounded_taking, all_meters, any_meter}
+use Rattle.metering.specs.Energy.{adding, taking, has_ratio, is_accepted, runs_back, rounded_adding, rounded_taking}
 use Rattle.metering.specs.declared.Bounds.{Bounds}
 use Rattle.metering.specs.declared.Meter.{Meter}
-use Rattle.metering.specs.declared.MeterRead.{MeterRead}
-use Rattle.metering.specs.declared.MeterRead.TheVariants.{Refused, Moved}
+use Rattle.metering.specs.declared.Moved.{Moved}
 
--- The magnitude of a finite register, in units, by its exponent field and its digits: a leading one before the digits, 8388608 of their
--- last place, save where the field is 0.
+-- The magnitude of a finite register, in units, by its exponent field and its digits: a leading one before the digits,
+-- 8388608 of their last place, save where the field is 0.
 unfoldable pub magnitude : ℕ → ℕ → ℕ
 magnitude zero digits = 1000 * digits
 magnitude (suc x) digits = 1000 * ((8388608 + digits) * 2 ^ x)
@@ -25,12 +27,27 @@ abbrev pub is_read : Meter → Bool
 is_read m = has_ratio m && is_accepted m
 
 -- One meter: what adds and what is taken, rounded, and whether it runs back.
-abbrev pub meter_read : Direction → Meter → MeterRead
-meter_read dir m =
-    cond (is_read m)
-    (Moved (divided dir (exact_by m.ratio (adding m)) unit) (divided (opposite dir) (exact_by m.ratio (taking m)) unit) (runs_back m))
-    Refused
+abbrev pub meter_moved : Direction → Meter → Moved
+meter_moved dir m =
+    record {
+      readings = record {
+        adds = divided dir (exact_by m.ratio (adding m)) unit;
+        takes = divided (opposite dir) (exact_by m.ratio (taking m)) unit;
+      };
+      back = runs_back m;
+    }
+
+-- Number 3 is all that refuses a meter whose ratio is in its range.
+abbrev pub meter_read : Direction → Meter → Outcome Moved
+meter_read dir m = refuse_unless 3 (is_accepted m) (given (meter_moved dir m))
 
 -- The same of a list of meters.
-abbrev pub meters_read : Direction → List Meter → MeterRead
-meters_read dir ms = cond (all_meters is_read ms) (Moved (rounded_adding dir ms) (rounded_taking dir ms) (any_meter runs_back ms)) Refused
+abbrev pub meters_moved : Direction → List Meter → Moved
+meters_moved dir ms =
+    record {
+      readings = record { adds = rounded_adding dir ms; takes = rounded_taking dir ms };
+      back = list_any runs_back ms;
+    }
+
+abbrev pub meters_read : Direction → List Meter → Outcome Moved
+meters_read dir ms = refuse_unless 3 (list_all is_accepted ms) (given (meters_moved dir ms))

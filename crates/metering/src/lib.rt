@@ -3,16 +3,12 @@
 // the integers of its bits.
 #![tactic(auto)]
 
-ghost use Rattle.std.specs.Prelude.{◌≡◌, true, ◌*◌, ◌≤◌, ◌<◌, ltb, take};
+ghost use Rattle.std.specs.Prelude.{◌≡◌, true, ◌*◌, ◌≤◌, ◌<◌, ltb, length};
+ghost use Rattle.std.specs.List.{list_all};
 ghost use Rattle.std.specs.Float.{binary32};
 ghost use Rattle.std.specs.Float.Ieee.{of_bits};
-ghost use Rattle.metering.specs.Reading.{
-  exact_register,
-  is_readable_register,
-  ratio_fits,
-  watt_hours,
-  watt_hours_meaning,
-};
+ghost use Rattle.rounding.specs.Outcome.{outcome_of};
+ghost use Rattle.metering.specs.Reading.{exact_register, is_readable_register, ratio_fits, watt_hours};
 ghost use Rattle.metering.specs.Energy.{
   first_of,
   last_of,
@@ -20,17 +16,14 @@ ghost use Rattle.metering.specs.Energy.{
   taking,
   has_ratio,
   runs_back,
-  all_meters,
   judged_meters,
   settled_energy,
-  meters_refusal,
-  energy_refusal,
   no_meter,
   meters_limit,
 };
 ghost use Rattle.metering.specs.Steps.{magnitude, rounded_both_ways, is_read, meter_read, meters_read};
 
-use rounding::Direction;
+use rounding::{Direction, Refusal};
 
 // A meter reading: a whole count of watt-hours, or a binary32 register in kWh.
 #[derive(Clone, Copy)]
@@ -85,58 +78,25 @@ impl Meter {
     pub const RATIO_LIMIT: u16 = 10_000;
 }
 
-// A reading times its ratio in whole watt-hours, or the number of the refusal: 2 or 3.
+// The readings that add to a source's energy and those that are taken from it, rounded and summed up.
 #[derive(Clone, Copy)]
-pub enum WattHours {
-    Refused(u8),
-    Rounded(u64),
+pub struct RoundedReadings {
+    pub adds: u64,
+    pub takes: u64,
 }
 
-// The sums of a source's readings that add and of those that are taken, rounded; or the number of the
-// refusal: 2, 3 or 4.
-#[derive(Clone, Copy)]
-pub enum MetersJudged {
-    Refused(u8),
-    Read(u64, u64),
-}
+// The bit pattern of -0: those above it are of registers below zero, or of no number.
+const MINUS_ZERO: u32 = 0x8000_0000;
 
-// A source's energy, or the number of the refusal: 6.
-#[derive(Clone, Copy)]
-pub enum EnergyJudged {
-    Refused(u8),
-    Accepted(u64),
-}
-
-impl MetersJudged {
-    // The number of the refusal, 0 where the meters were read.
-    pub fn refusal(self) -> u8
-        ensures { result ≡ meters_refusal self }
-    {
-        match self {
-            MetersJudged::Refused(number) => number,
-            MetersJudged::Read(_, _) => 0,
-        }
-    }
-}
-
-impl EnergyJudged {
-    // The number of the refusal, 0 where the energy was accepted.
-    pub fn refusal(self) -> u8
-        ensures { result ≡ energy_refusal self }
-    {
-        match self {
-            EnergyJudged::Refused(number) => number,
-            EnergyJudged::Accepted(_) => 0,
-        }
-    }
-}
+// The bit pattern of infinity: those above it are of no number.
+const INFINITY: u32 = 0x7f80_0000;
 
 // The register with this bit pattern. Every NaN pattern gives a NaN.
 pub fn register(bits: u32) -> f32
     ensures { result ≡ of_bits binary32 bits }
 {
-    if bits % 0x8000_0000 > 0x7f80_0000 {
-        return 0.0 / 0.0;
+    if bits % 0x8000_0000 > INFINITY {
+        return f32::NAN;
     }
     f32::from_bits(bits)
 }
@@ -164,96 +124,79 @@ fn round_both_ways(field: u32, digits: u32, ratio: u16) -> Bounds
     let count = significand as u64 * 8000 * ratio as u64;
     let shift = if field < 90 { 63 } else { 153 - field };
     let down = count >> shift;
-    if down << shift == count {
-        return Bounds {
-            down: down,
-            up: down,
-        };
-    }
-    Bounds {
-        down: down,
-        up: down + 1,
-    }
+    let up = if down << shift == count {
+        down
+    } else {
+        down + 1
+    };
+    Bounds { down, up }
 }
 
 // Whether a ratio is in its range.
 fn ratio_fits(ratio: u16) -> bool
     ensures { result ≡ ratio_fits ratio }
 {
-    if ratio == 0 {
-        return false;
-    }
-    ratio <= Meter::RATIO_LIMIT
+    (1..=Meter::RATIO_LIMIT).contains(&ratio)
 }
 
-// The whole watt-hours of the register with this bit pattern, times the ratio. Patterns above that of -0 are
-// those of registers below zero and of no number. The limit is on the exact product, which is above it exactly
-// where the product rounded up is.
-fn register_watt_hours(bits: u32, ratio: u16, direction: Direction) -> WattHours
+// The whole watt-hours of the register with this bit pattern, times the ratio. The limit is on the exact product,
+// which is above it exactly where the product rounded up is.
+fn register_watt_hours(bits: u32, ratio: u16, direction: Direction) -> Result<u64, Refusal>
     requires { ratio_fits ratio ≡ true }
-    ensures { watt_hours_meaning result ≡ watt_hours direction ratio (Reading.Single (of_bits binary32 bits)) }
+    ensures { outcome_of result ≡ watt_hours direction ratio (Reading.Single (of_bits binary32 bits)) }
 {
-    if bits > 0x8000_0000 {
-        return WattHours::Refused(3);
-    }
     let field = bits % 0x8000_0000 / 0x80_0000;
-    // 2^27 kWh and more, or no number: beyond the limit by every ratio, and beyond what the shift takes.
-    if field > 153 {
-        return WattHours::Refused(3);
+    // Patterns above that of -0 are those of registers below zero and of no number. From field 154 on they are 2^27 kWh
+    // and more, or no number: beyond the limit by every ratio, and beyond what the shift takes.
+    if bits > MINUS_ZERO || field > 153 {
+        return Err(Refusal::UnreadableReading);
     }
     let bounds = round_both_ways(field, bits % 0x80_0000, ratio);
     if bounds.up > Reading::LIMIT {
-        return WattHours::Refused(3);
+        return Err(Refusal::UnreadableReading);
     }
     match direction {
-        Direction::Up => WattHours::Rounded(bounds.up),
-        Direction::Down => WattHours::Rounded(bounds.down),
+        Direction::Up => Ok(bounds.up),
+        Direction::Down => Ok(bounds.down),
     }
 }
 
-// The whole watt-hours of a reading times its ratio, in the direction, or the number of its refusal.
-pub fn watt_hours(reading: Reading, ratio: u16, direction: Direction) -> WattHours
-    ensures { watt_hours_meaning result ≡ watt_hours direction ratio reading }
+// The whole watt-hours of a reading times its ratio, in the direction.
+pub fn watt_hours(reading: Reading, ratio: u16, direction: Direction) -> Result<u64, Refusal>
+    ensures { outcome_of result ≡ watt_hours direction ratio reading }
 {
-    if ratio_fits(ratio) == false {
-        return WattHours::Refused(2);
+    if !ratio_fits(ratio) {
+        return Err(Refusal::OutOfLimits);
     }
     match reading {
         Reading::Whole(count) => {
-            // Beyond the limit by every ratio; the product may not fit.
-            if count > Reading::LIMIT {
-                return WattHours::Refused(3);
+            // A count above the limit is so by every ratio, and its product may not fit. A checked product would take a
+            // division.
+            if count > Reading::LIMIT || count * ratio as u64 > Reading::LIMIT {
+                return Err(Refusal::UnreadableReading);
             }
-            let product = count * ratio as u64;
-            if product > Reading::LIMIT {
-                return WattHours::Refused(3);
-            }
-            WattHours::Rounded(product)
+            Ok(count * ratio as u64)
         }
-        Reading::Single(x) => {
-            // A NaN has no pattern of its own.
-            if x != x {
-                return WattHours::Refused(3);
-            }
-            register_watt_hours(f32::to_bits(x), ratio, direction)
-        }
+        // A NaN has no pattern of its own.
+        Reading::Single(x) if x.is_nan() => Err(Refusal::UnreadableReading),
+        Reading::Single(x) => register_watt_hours(x.to_bits(), ratio, direction),
     }
 }
 
 impl Interval {
-    fn first(self) -> Reading
-        ensures { result ≡ first_of self }
+    fn first(&self) -> Reading
+        ensures { result ≡ first_of self.now }
     {
-        match self {
+        match *self {
             Interval::Counts(first, _) => Reading::Whole(first),
             Interval::Singles(registers) => Reading::Single(registers.first),
         }
     }
 
-    fn last(self) -> Reading
-        ensures { result ≡ last_of self }
+    fn last(&self) -> Reading
+        ensures { result ≡ last_of self.now }
     {
-        match self {
+        match *self {
             Interval::Counts(_, last) => Reading::Whole(last),
             Interval::Singles(registers) => Reading::Single(registers.last),
         }
@@ -268,9 +211,7 @@ impl Registers {
         requires { (is_readable_register self.first ≡ true) × (is_readable_register self.last ≡ true) }
         ensures { result ≡ ltb (exact_register self.last) (exact_register self.first) }
     {
-        let first = self.first;
-        let last = self.last;
-        f32::to_bits(last) % 0x8000_0000 < f32::to_bits(first) % 0x8000_0000
+        self.last.to_bits() % 0x8000_0000 < self.first.to_bits() % 0x8000_0000
     }
 }
 
@@ -287,138 +228,125 @@ impl Meter {
     }
 
     // The reading that adds to the source's energy.
-    fn adding(self) -> Reading
-        ensures { result ≡ adding self }
+    fn adding(&self) -> Reading
+        ensures { result ≡ adding self.now }
     {
-        let sign = self.sign;
-        let interval = self.interval;
-        match sign {
-            Sign::Plus => interval.last(),
-            Sign::Minus => interval.first(),
+        match self.sign {
+            Sign::Plus => self.interval.last(),
+            Sign::Minus => self.interval.first(),
         }
     }
 
     // The reading that is taken from it.
-    fn taking(self) -> Reading
-        ensures { result ≡ taking self }
+    fn taking(&self) -> Reading
+        ensures { result ≡ taking self.now }
     {
-        let sign = self.sign;
-        let interval = self.interval;
-        match sign {
-            Sign::Plus => interval.first(),
-            Sign::Minus => interval.last(),
+        match self.sign {
+            Sign::Plus => self.interval.first(),
+            Sign::Minus => self.interval.last(),
         }
     }
 
     // Whether the last reading is below the first, by exact value: both times one ratio, which is not 0, are
     // in the order of the readings. Numbers 2 and 3 come before number 4, so the meter is one that is read.
-    fn runs_back(self) -> bool
-        requires { is_read self ≡ true }
-        ensures { result ≡ runs_back self }
+    fn runs_back(&self) -> bool
+        requires { is_read self.now ≡ true }
+        ensures { result ≡ runs_back self.now }
     {
-        let interval = self.interval;
-        match interval {
+        match self.interval {
             Interval::Counts(first, last) => last < first,
             Interval::Singles(registers) => registers.run_back(),
         }
     }
 }
 
-// What a meter or several add to a source's energy and what they take from it, in whole watt-hours, and
-// whether one runs back; or that a reading is refused.
+// The readings of a meter or several, rounded, and whether one runs back.
 #[derive(Clone, Copy)]
-enum MeterRead {
-    Refused,
-    Moved(u64, u64, bool),
+struct Moved {
+    readings: RoundedReadings,
+    back: bool,
 }
 
 // One meter: what adds is rounded in the source's direction, what is taken in the opposite one, both times the
 // meter's ratio.
-fn read_meter(meter: Meter, direction: Direction) -> MeterRead
-    ensures { result ≡ meter_read direction meter }
+fn read_meter(meter: &Meter, direction: Direction) -> Result<Moved, Refusal>
+    requires { has_ratio meter.now ≡ true }
+    ensures { outcome_of result ≡ meter_read direction meter.now }
 {
-    let ratio = meter.ratio;
-    let WattHours::Rounded(takes) = watt_hours(meter.taking(), ratio, direction.reversed()) else {
-        return MeterRead::Refused;
-    };
-    let WattHours::Rounded(adds) = watt_hours(meter.adding(), ratio, direction) else {
-        return MeterRead::Refused;
-    };
-    MeterRead::Moved(adds, takes, meter.runs_back())
+    let takes = watt_hours(meter.taking(), meter.ratio, direction.reversed())?;
+    let adds = watt_hours(meter.adding(), meter.ratio, direction)?;
+    Ok(Moved {
+        readings: RoundedReadings { adds, takes },
+        back: meter.runs_back(),
+    })
 }
 
-// The first `count` meters together. A meter that runs back does not end the loop: number 3 is tested
-// over all meters before number 4.
-fn read_meters(meters: [Meter; Meter::PLACES], count: usize, direction: Direction) -> MeterRead
-    requires { count ≤ meters_limit }
-    ensures { result ≡ meters_read direction (take count meters) }
+// All meters together. A meter that runs back does not end the loop: number 3 is tested over all meters before
+// number 4.
+fn read_meters(meters: &[Meter], direction: Direction) -> Result<Moved, Refusal>
+    requires few { length meters.now ≤ meters_limit }
+    requires ratios { list_all has_ratio meters.now ≡ true }
+    ensures { outcome_of result ≡ meters_read direction meters.now }
 {
-    let mut adds: u64 = 0;
-    let mut takes: u64 = 0;
+    let mut adds = 0;
+    let mut takes = 0;
     let mut back = false;
-    let mut i = 0;
-    while i < count {
-        let meter = meters[i];
-        let MeterRead::Moved(adding, taking, runs_back) = read_meter(meter, direction) else {
-            return MeterRead::Refused;
-        };
-        adds += adding;
-        takes += taking;
-        back = back | runs_back;
-        i += 1;
+    for meter in meters {
+        let moved = read_meter(meter, direction)?;
+        adds += moved.readings.adds;
+        takes += moved.readings.takes;
+        back |= moved.back;
     }
-    MeterRead::Moved(adds, takes, back)
+    Ok(Moved {
+        readings: RoundedReadings { adds, takes },
+        back,
+    })
 }
 
-// Whether the ratios of the first `count` meters are in their range.
-fn ratios_fit(meters: [Meter; Meter::PLACES], count: usize) -> bool
-    requires { count ≤ meters_limit }
-    ensures { result ≡ all_meters has_ratio (take count meters) }
+// Whether the ratios of all meters are in their range.
+fn ratios_fit(meters: &[Meter]) -> bool
+    ensures { result ≡ list_all has_ratio meters.now }
 {
-    let mut i = 0;
-    while i < count {
-        let meter = meters[i];
-        if ratio_fits(meter.ratio) == false {
+    for meter in meters {
+        if !ratio_fits(meter.ratio) {
             return false;
         }
-        i += 1;
     }
     true
 }
 
 // The rounded readings of a source's meters, the first `count` of the four, or the first refusal of 2, 3
 // and 4 that is due (document 01, "Source entry"). Number 2 is tested over all meters before number 3 of any.
-pub fn judge_meters(meters: [Meter; Meter::PLACES], count: u8, direction: Direction) -> MetersJudged
-    ensures { result ≡ judged_meters direction count meters }
+#[tactic(auto, unfolding(crate::specs::Energy::judged_meters, crate::specs::Energy::judged_readings))]
+pub fn judge_meters(
+    meters: &[Meter; Meter::PLACES],
+    count: u8,
+    direction: Direction,
+) -> Result<RoundedReadings, Refusal>
+    ensures { outcome_of result ≡ judged_meters direction count meters.now }
 {
-    if count == 0 {
-        return MetersJudged::Refused(2);
+    if !(1..=Meter::COUNT_LIMIT).contains(&count) {
+        return Err(Refusal::OutOfLimits);
     }
-    if count > Meter::COUNT_LIMIT {
-        return MetersJudged::Refused(2);
+    let meters = &meters[..count as usize];
+    if !ratios_fit(meters) {
+        return Err(Refusal::OutOfLimits);
     }
-    if ratios_fit(meters, count as usize) == false {
-        return MetersJudged::Refused(2);
+    let moved = read_meters(meters, direction)?;
+    if moved.back {
+        return Err(Refusal::RunsBack);
     }
-    let MeterRead::Moved(adds, takes, back) = read_meters(meters, count as usize, direction) else {
-        return MetersJudged::Refused(3);
-    };
-    if back {
-        return MetersJudged::Refused(4);
-    }
-    MetersJudged::Read(adds, takes)
+    Ok(moved.readings)
 }
 
 // A source's energy from its rounded readings, or refusal 6.
-pub fn settle_energy(adds: u64, takes: u64) -> EnergyJudged
-    ensures { result ≡ settled_energy adds takes }
+#[tactic(auto, unfolding(crate::specs::Energy::settled_energy))]
+pub fn settle_energy(readings: RoundedReadings) -> Result<u64, Refusal>
+    ensures { outcome_of result ≡ settled_energy readings.adds readings.takes }
 {
-    if adds < takes {
-        return EnergyJudged::Refused(6);
-    }
-    let energy = adds - takes;
-    if energy > Reading::LIMIT {
-        return EnergyJudged::Refused(6);
-    }
-    EnergyJudged::Accepted(energy)
+    readings
+        .adds
+        .checked_sub(readings.takes)
+        .filter(|energy| *energy <= Reading::LIMIT)
+        .ok_or(Refusal::EnergyOutOfLimits)
 }

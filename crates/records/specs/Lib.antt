@@ -1,4 +1,3 @@
 pub mod Heat
 pub mod Judging
 pub mod Records
-pub mod Steps

@@ -1,21 +1,36 @@
 // The records of a ledger: one of the grid, one under each number of a plant and of a source. Each operation
-// is judged here and works on the one record that it changes; the owner of the ledger stores what is kept
-// (document 01, "How each operation declines"; document 02, wish 5).
+// is judged here, and changes the one record that it names (document 01, "How each operation declines"; document
+// 02, wish 5).
 #![tactic(auto)]
 
-ghost use Rattle.std.specs.Prelude.{◌≡◌, ◌≤◌, ◌&&◌, leb, take};
-ghost use Rattle.emissions.specs.Grid.{grid_judged};
-ghost use Rattle.records.specs.Heat.{heat_judged};
-ghost use Rattle.records.specs.Judging.{lines_of, last_plant, last_source, lines_limit, generation_limit, answer_of, all_within_limits, plant_judged, supply_within_limits, loss_within_limits, is_nothing, loss_matches, source_judged, drop_judged, where_given};
-ghost use Rattle.records.specs.Records.{no_grid, no_plant, no_source, grid_record, plant_record, source_record, held_plant, held_source};
-ghost use Rattle.records.specs.Steps.{source_meaning};
+ghost use Rattle.std.specs.Prelude.{◌≡◌, ◌≤◌, ◌&&◌, leb, cond, length};
+ghost use Rattle.rounding.specs.Outcome.{outcome_of};
+ghost use Rattle.fuel.specs.Fuel.{states_energy, all_lines};
+ghost use Rattle.records.specs.Heat.{fuel_energy, heat_judged};
+ghost use Rattle.records.specs.Judging.{
+  lines_of,
+  lines_limit,
+  generation_limit,
+  answer_of,
+  all_within_limits,
+  plant_judged,
+  supply_within_limits,
+  loss_within_limits,
+  is_nothing,
+  loss_matches,
+  source_judged,
+  is_there,
+  drop_judged,
+  where_given,
+};
 
-use emissions::{Grid, GridEntry, GridJudged, Loss, Side, Supply};
-use fuel::{FuelLine, LineEnergy};
-use metering::{EnergyJudged, Meter, MetersJudged};
+use emissions::{Loss, Side, Supply};
+use fuel::FuelLine;
+use metering::Meter;
+use rounding::Refusal;
 
 // A captive plant as entered: its site, its generation in kWh, the heat that it also makes in kJ, and its fuel
-// lines, of which the first `count` count.
+// lines, of which the first `count` count. No slice has that count where it is above the places, which is refused 2.
 #[derive(Clone, Copy)]
 pub struct Plant {
     pub site: u8,
@@ -25,7 +40,7 @@ pub struct Plant {
     pub lines: [FuelLine; Plant::LINE_PLACES],
 }
 
-// A source as entered: its meters are the first `count` of the four.
+// A source as entered: its meters are the first `count` of the four, and more than four are refused 2, as of lines.
 #[derive(Clone, Copy)]
 pub struct SourceEntry {
     pub side: Side,
@@ -42,75 +57,6 @@ pub struct Source {
     pub supply: Supply,
     pub loss: Loss,
     pub energy: u64,
-}
-
-// What is kept of the grid, and under a number. The fields are those of a plant or a source, with `stands` in
-// a byte that would else be padding; where nothing stands they are empty. The grid has a struct of its own
-// because a field that is an enum cannot be stored to.
-#[derive(Clone, Copy)]
-pub struct GridRecord {
-    pub grid: Grid,
-}
-
-#[derive(Clone, Copy)]
-pub struct PlantRecord {
-    pub stands: bool,
-    pub site: u8,
-    pub count: u8,
-    pub generation: u32,
-    pub heat: u64,
-    pub lines: [FuelLine; Plant::LINE_PLACES],
-}
-
-#[derive(Clone, Copy)]
-pub struct SourceRecord {
-    pub stands: bool,
-    pub side: Side,
-    pub supply: Supply,
-    pub loss: Loss,
-    pub energy: u64,
-}
-
-// A plant's heat judged: none is made, the number of the refusal, 16 or 17, or the energy J that the heat is a part
-// of.
-#[derive(Clone, Copy)]
-pub enum HeatJudged {
-    Nothing,
-    Refused(u8),
-    Within(u64),
-}
-
-// The answer to an entry or a drop.
-#[derive(Clone, Copy)]
-pub enum Answer {
-    Accepted,
-    Refused(u8),
-}
-
-// What an operation leaves in its record, with its answer.
-#[derive(Clone, Copy)]
-pub struct GridKept {
-    pub kept: GridRecord,
-    pub answer: Answer,
-}
-
-#[derive(Clone, Copy)]
-pub struct PlantKept {
-    pub kept: PlantRecord,
-    pub answer: Answer,
-}
-
-#[derive(Clone, Copy)]
-pub struct SourceKept {
-    pub kept: SourceRecord,
-    pub answer: Answer,
-}
-
-// A source entry judged: what is kept of it, or the number of the refusal.
-#[derive(Clone, Copy)]
-enum SourceJudged {
-    Refused(u8),
-    Accepted(Source),
 }
 
 impl Plant {
@@ -136,82 +82,69 @@ impl Plant {
     pub const GENERATION_LIMIT: u32 = 100_000_000;
 
     // Whether the number of fuel lines and the generation are within their limits.
-    pub fn figures_fit(self) -> bool
-        ensures { result ≡ (leb self.count lines_limit && leb self.generation generation_limit) }
+    pub fn figures_fit(&self) -> bool
+        ensures { result ≡ (leb self.now.count lines_limit && leb self.now.generation generation_limit) }
     {
-        if self.count > Plant::LINES_LIMIT {
-            return false;
-        }
-        self.generation <= Plant::GENERATION_LIMIT
+        self.count <= Plant::LINES_LIMIT && self.generation <= Plant::GENERATION_LIMIT
     }
 
-    // The heat's refusals 16 and 17, of lines within their limits. Lines out of them are refused with 2 before, and
-    // count here as lines that state no energy, so that no sum wraps.
-    pub fn heat_judged(self) -> HeatJudged
-        ensures { result ≡ heat_judged self.heat self.count (lines_of self) }
+    // The energy J that the heat is a part of, or none where no heat is made; or the heat's refusals 16 and 17, of
+    // lines within their limits. Lines out of them are refused with 2 before, and count here as lines that state no
+    // energy, so that no sum wraps.
+    #[tactic(auto, unfolding(crate::specs::Judging::lines_of))]
+    pub fn heat_judged(&self) -> Result<Option<u64>, Refusal>
+        ensures { outcome_of result ≡ heat_judged self.now.heat self.now.count (lines_of self.now) }
     {
         if self.heat == 0 {
-            return HeatJudged::Nothing;
+            return Ok(None);
         }
         if self.count > Plant::LINES_LIMIT {
-            return HeatJudged::Refused(16);
+            return Err(Refusal::HeatBesideCarbon);
         }
-        let lines = self.lines;
-        let count = self.count as usize;
-        let mut total: u64 = 0;
-        let mut i = 0;
-        while i < count {
-            let line = lines[i];
-            let LineEnergy::Stated(energy) = line.energy() else {
-                return HeatJudged::Refused(16);
-            };
-            total += energy;
-            i += 1;
+        let lines = &self.lines[..self.count as usize];
+        let total = stated_energy(lines).ok_or(Refusal::HeatBesideCarbon)?;
+        if self.heat > total {
+            return Err(Refusal::HeatAboveFuel);
         }
-        if self.heat <= total {
-            return HeatJudged::Within(total);
-        }
-        HeatJudged::Refused(17)
+        Ok(Some(total))
     }
 
-    // The entry's refusals 1, 2, 16 and 17 (document 01, "Plant entry"; document 02, wish 5).
-    pub fn judged(self, number: u8) -> Answer
-        ensures { result ≡ answer_of (plant_judged number self) }
+    // The plant as it is kept, or the entry's refusals 1, 2, 16 and 17 (document 01, "Plant entry"; document 02,
+    // wish 5).
+    #[tactic(auto, using(crate::proofs::Judged::plant_found))]
+    pub fn judged(&self, number: u8) -> Result<Plant, Refusal>
+        ensures { outcome_of result ≡ plant_judged number self.now }
     {
-        if number > Plant::LAST {
-            return Answer::Refused(1);
+        if number > Plant::LAST || self.site > Plant::SITE_LIMIT {
+            return Err(Refusal::NumberOutOfRange);
         }
-        if self.site > Plant::SITE_LIMIT {
-            return Answer::Refused(1);
+        if !self.figures_fit() || !are_within_limits(&self.lines[..self.count as usize]) {
+            return Err(Refusal::OutOfLimits);
         }
-        if self.figures_fit() == false {
-            return Answer::Refused(2);
-        }
-        let lines = self.lines;
-        let count = self.count;
-        if are_within_limits(lines, count as usize) == false {
-            return Answer::Refused(2);
-        }
-        let heat = self.heat_judged();
-        match heat {
-            HeatJudged::Nothing => Answer::Accepted,
-            HeatJudged::Refused(refusal) => Answer::Refused(refusal),
-            HeatJudged::Within(_) => Answer::Accepted,
-        }
+        self.heat_judged()?;
+        Ok(*self)
     }
 }
 
-// Whether the first `count` fuel lines are within their limits.
-fn are_within_limits(lines: [FuelLine; Plant::LINE_PLACES], count: usize) -> bool
-    requires { count ≤ lines_limit }
-    ensures { result ≡ all_within_limits (take count lines) }
+// The energy of all the fuel lines together, none where one of them states none.
+fn stated_energy(lines: &[FuelLine]) -> Option<u64>
+    requires { length lines.now ≤ lines_limit }
+    ensures { result ≡ cond (all_lines states_energy lines.now) (Some (fuel_energy lines.now)) None }
 {
-    let mut i = 0;
-    while i < count {
-        let line = lines[i];
-        if line.is_within_limits() {
-            i += 1;
-        } else {
+    let mut total: u64 = 0;
+    for line in lines {
+        total += line.energy()?;
+    }
+    Some(total)
+}
+
+// Whether each fuel line is within its limits.
+#[tactic(auto, unfolding(fuel::specs::Fuel::all_lines))]
+fn are_within_limits(lines: &[FuelLine]) -> bool
+    ensures { result ≡ all_within_limits lines.now }
+{
+    for line in lines {
+        if !line.is_within_limits() {
             return false;
         }
     }
@@ -223,11 +156,8 @@ fn supply_is_within_limits(supply: Supply) -> bool
     ensures { result ≡ supply_within_limits supply }
 {
     match supply {
-        Supply::Combined => true,
-        Supply::GridDefault => true,
-        Supply::Captive(site) => site <= Plant::SITE_LIMIT,
-        Supply::CaptiveDefault => true,
-        Supply::Either(site) => site <= Plant::SITE_LIMIT,
+        Supply::Captive(site) | Supply::Either(site) => site <= Plant::SITE_LIMIT,
+        Supply::Combined | Supply::GridDefault | Supply::CaptiveDefault => true,
     }
 }
 
@@ -236,71 +166,46 @@ pub fn loss_is_within_limits(loss: Loss) -> bool
     ensures { result ≡ loss_within_limits loss }
 {
     match loss {
-        Loss::Nothing => true,
         Loss::Measured(measured) => measured <= Loss::LIMIT,
-        Loss::Default20 => true,
-        Loss::Default3 => true,
+        Loss::Nothing | Loss::Default20 | Loss::Default3 => true,
     }
 }
 
 pub fn is_nothing(loss: Loss) -> bool
     ensures { result ≡ is_nothing loss }
 {
-    match loss {
-        Loss::Nothing => true,
-        Loss::Measured(_) => false,
-        Loss::Default20 => false,
-        Loss::Default3 => false,
-    }
+    matches!(loss, Loss::Nothing)
 }
 
 // Whether the loss goes with the supply: captive supplies carry none, the others carry one.
 fn is_matched(supply: Supply, loss: Loss) -> bool
     ensures { result ≡ loss_matches supply loss }
 {
-    let none = is_nothing(loss);
-    match supply {
-        Supply::Combined => !none,
-        Supply::GridDefault => !none,
-        Supply::Captive(_) => none,
-        Supply::CaptiveDefault => none,
-        Supply::Either(_) => !none,
-    }
+    let is_captive = matches!(supply, Supply::Captive(_) | Supply::CaptiveDefault);
+    is_nothing(loss) == is_captive
 }
 
 impl SourceEntry {
-    // The entry's refusals 1 to 6 in their order, or what is kept (document 01, "Source entry").
-    fn judged(self, number: u8) -> SourceJudged
-        ensures { source_meaning result ≡ source_judged number self }
+    // The source that is kept, or the entry's refusals 1 to 6 in their order (document 01, "Source entry").
+    #[tactic(auto, unfolding(crate::specs::Judging::source_judged))]
+    pub fn judged(&self, number: u8) -> Result<Source, Refusal>
+        ensures { outcome_of result ≡ source_judged number self.now }
     {
-        let side = self.side;
-        let supply = self.supply;
-        let loss = self.loss;
-        if number > Source::LAST {
-            return SourceJudged::Refused(1);
+        if number > Source::LAST || !supply_is_within_limits(self.supply) {
+            return Err(Refusal::NumberOutOfRange);
         }
-        if supply_is_within_limits(supply) == false {
-            return SourceJudged::Refused(1);
+        if !loss_is_within_limits(self.loss) {
+            return Err(Refusal::OutOfLimits);
         }
-        if loss_is_within_limits(loss) == false {
-            return SourceJudged::Refused(2);
+        let readings = metering::judge_meters(&self.meters, self.count, self.side.direction())?;
+        if !is_matched(self.supply, self.loss) {
+            return Err(Refusal::UnmatchedLoss);
         }
-        let meters = self.meters;
-        let sums = metering::judge_meters(meters, self.count, side.direction());
-        let MetersJudged::Read(adds, takes) = sums else {
-            return SourceJudged::Refused(sums.refusal());
-        };
-        if is_matched(supply, loss) == false {
-            return SourceJudged::Refused(5);
-        }
-        let settled = metering::settle_energy(adds, takes);
-        let EnergyJudged::Accepted(energy) = settled else {
-            return SourceJudged::Refused(settled.refusal());
-        };
-        SourceJudged::Accepted(Source {
-            side,
-            supply,
-            loss,
+        let energy = metering::settle_energy(readings)?;
+        Ok(Source {
+            side: self.side,
+            supply: self.supply,
+            loss: self.loss,
             energy,
         })
     }
@@ -315,210 +220,25 @@ impl Source {
     pub const PLACES: usize = Source::NUMBERS as usize;
 }
 
-impl SourceJudged {
-    // The answer of an entry that is judged so.
-    fn answer(self) -> Answer
-        ensures { result ≡ answer_of (source_meaning self) }
-    {
-        match self {
-            SourceJudged::Refused(number) => Answer::Refused(number),
-            SourceJudged::Accepted(_) => Answer::Accepted,
-        }
-    }
+// Puts what an entry gives in its place, over what stands there; a refusal leaves the place as it was.
+pub fn enter<T: Copy>(place: &mut Option<T>, judged: Result<T, Refusal>) -> Result<(), Refusal>
+    ensures place { place.new ≡ where_given (outcome_of judged) Some place.old }
+    ensures answer { outcome_of result ≡ answer_of (outcome_of judged) }
+{
+    *place = Some(judged?);
+    Ok(())
 }
 
-// How a drop is judged, where numbers go up to the last one (document 01, "Drop").
-fn judged_drop(last: u8, stands: bool, number: u8) -> Answer
-    ensures { result ≡ answer_of (drop_judged last stands number) }
+// Empties the place of a number, where numbers go up to the last one (document 01, "Drop"); a refusal leaves the
+// place as it was.
+#[tactic(auto, unfolding(crate::specs::Judging::drop_judged))]
+pub fn remove<T: Copy>(place: &mut Option<T>, last: u8, number: u8) -> Result<(), Refusal>
+    ensures place { place.new ≡ where_given (drop_judged last (is_there place.old) number) (λ a. None) place.old }
+    ensures answer { outcome_of result ≡ drop_judged last (is_there place.old) number }
 {
     if number > last {
-        return Answer::Refused(1);
+        return Err(Refusal::NumberOutOfRange);
     }
-    if stands {
-        return Answer::Accepted;
-    }
-    Answer::Refused(7)
-}
-
-impl GridRecord {
-    pub fn empty() -> GridRecord
-        ensures { result ≡ no_grid }
-    {
-        GridRecord { grid: Grid::Absent }
-    }
-
-    // What an entry leaves, in place of an older one, and its answer (document 01, "Grid entry").
-    pub fn entered(self, entry: GridEntry) -> GridKept
-        ensures kept { result.kept ≡ where_given (grid_judged entry) grid_record self }
-        ensures answer { result.answer ≡ answer_of (grid_judged entry) }
-    {
-        let judged = entry.judged();
-        let GridJudged::Accepted(grid) = judged else {
-            return GridKept {
-                kept: self,
-                answer: Answer::Refused(judged.refusal()),
-            };
-        };
-        GridKept {
-            kept: GridRecord {
-                grid: Grid::Entered(grid),
-            },
-            answer: Answer::Accepted,
-        }
-    }
-}
-
-impl PlantRecord {
-    pub fn empty() -> PlantRecord
-        ensures { result ≡ no_plant }
-    {
-        let line = FuelLine::empty();
-        PlantRecord {
-            stands: false,
-            site: 0,
-            count: 0,
-            generation: 0,
-            heat: 0,
-            lines: [line; Plant::LINE_PLACES],
-        }
-    }
-
-    // The record of a plant that stands.
-    pub fn of(plant: Plant) -> PlantRecord
-        ensures { result ≡ plant_record plant }
-    {
-        let lines = plant.lines;
-        PlantRecord {
-            stands: true,
-            site: plant.site,
-            count: plant.count,
-            generation: plant.generation,
-            heat: plant.heat,
-            lines,
-        }
-    }
-
-    // The plant in the record.
-    pub fn plant(self) -> Plant
-        ensures { result ≡ held_plant self }
-    {
-        let lines = self.lines;
-        Plant {
-            site: self.site,
-            count: self.count,
-            generation: self.generation,
-            heat: self.heat,
-            lines,
-        }
-    }
-
-    // What an entry under the number leaves in the record there, in place of an older plant, and its answer
-    // (document 01, "Plant entry").
-    pub fn entered(self, number: u8, plant: Plant) -> PlantKept
-        ensures kept { result.kept ≡ where_given (plant_judged number plant) plant_record self }
-        ensures answer { result.answer ≡ answer_of (plant_judged number plant) }
-    {
-        let answer = plant.judged(number);
-        let Answer::Accepted = answer else {
-            return PlantKept { kept: self, answer };
-        };
-        PlantKept {
-            kept: PlantRecord::of(plant),
-            answer,
-        }
-    }
-
-    // What a drop under the number leaves in the record there, and its answer (document 01, "Drop").
-    pub fn dropped(self, number: u8) -> PlantKept
-        ensures kept { result.kept ≡ where_given (drop_judged last_plant self.stands number) (λ a. no_plant) self }
-        ensures answer { result.answer ≡ answer_of (drop_judged last_plant self.stands number) }
-    {
-        let answer = judged_drop(Plant::LAST, self.stands, number);
-        let Answer::Accepted = answer else {
-            return PlantKept { kept: self, answer };
-        };
-        PlantKept {
-            kept: PlantRecord::empty(),
-            answer,
-        }
-    }
-}
-
-impl SourceRecord {
-    pub fn empty() -> SourceRecord
-        ensures { result ≡ no_source }
-    {
-        SourceRecord {
-            stands: false,
-            side: Side::Project,
-            supply: Supply::Combined,
-            loss: Loss::Nothing,
-            energy: 0,
-        }
-    }
-
-    // The record of a source that stands.
-    pub fn of(source: Source) -> SourceRecord
-        ensures { result ≡ source_record source }
-    {
-        let side = source.side;
-        let supply = source.supply;
-        let loss = source.loss;
-        SourceRecord {
-            stands: true,
-            side,
-            supply,
-            loss,
-            energy: source.energy,
-        }
-    }
-
-    // The source in the record.
-    pub fn source(self) -> Source
-        ensures { result ≡ held_source self }
-    {
-        let side = self.side;
-        let supply = self.supply;
-        let loss = self.loss;
-        Source {
-            side,
-            supply,
-            loss,
-            energy: self.energy,
-        }
-    }
-
-    // What an entry under the number leaves in the record there, in place of an older source, and its answer
-    // (document 01, "Source entry").
-    pub fn entered(self, number: u8, entry: SourceEntry) -> SourceKept
-        ensures kept { result.kept ≡ where_given (source_judged number entry) source_record self }
-        ensures answer { result.answer ≡ answer_of (source_judged number entry) }
-    {
-        let judged = entry.judged(number);
-        let SourceJudged::Accepted(source) = judged else {
-            return SourceKept {
-                kept: self,
-                answer: judged.answer(),
-            };
-        };
-        SourceKept {
-            kept: SourceRecord::of(source),
-            answer: Answer::Accepted,
-        }
-    }
-
-    // What a drop under the number leaves in the record there, and its answer (document 01, "Drop").
-    pub fn dropped(self, number: u8) -> SourceKept
-        ensures kept { result.kept ≡ where_given (drop_judged last_source self.stands number) (λ a. no_source) self }
-        ensures answer { result.answer ≡ answer_of (drop_judged last_source self.stands number) }
-    {
-        let answer = judged_drop(Source::LAST, self.stands, number);
-        let Answer::Accepted = answer else {
-            return SourceKept { kept: self, answer };
-        };
-        SourceKept {
-            kept: SourceRecord::empty(),
-            answer,
-        }
-    }
+    place.take().ok_or(Refusal::NothingStands)?;
+    Ok(())
 }

@@ -1,7 +1,6 @@
 -- The report on what stands (document 01, "Losses and factors", "Report", and "A report gives for each side ..").
-use Rattle.std.specs.Prelude.{ℕ, zero, suc, Bool, true, false, cond, ◌&&◌, List, [], ◌∷◌, map, leb, eqb, ℤ, pos, ◌-ℤ◌, length}
-use Rattle.std.proofs.Math.Option
-use Rattle.std.proofs.Math.Option.{Option, none, some}
+use Rattle.std.specs.Prelude.{ℕ, zero, suc, Bool, true, false, cond, ◌&&◌, List, [], ◌∷◌, map, leb, eqb, ℤ, pos, ◌-ℤ◌}
+use Rattle.std.specs.Prelude.{length, Option, None, Some, option_map}
 use Rattle.rounding.specs.Divided.{divided, sum}
 use Rattle.rounding.specs.Ratio.{Ratio, sumᵣ}
 use Rattle.rounding.specs.declared.Direction.{Direction}
@@ -23,12 +22,10 @@ use Rattle.report.specs.Heat.{electricity_milligrams, exact_electricity, heated_
 use Rattle.report.specs.Intact.{plant_intact, source_intact, all_intact}
 use Rattle.records.specs.declared.Plant.{Plant}
 use Rattle.records.specs.declared.Source.{Source}
-use Rattle.records.specs.declared.PlantRecord.{PlantRecord}
-use Rattle.records.specs.declared.SourceRecord.{SourceRecord}
 
 -- What a report reads: the grid, and the plant and the source under each number.
 pub record ReportInput : Type 0 where
-  pub grid : Grid
+  pub grid : Option Grid
   pub plant : ℕ → Option Plant
   pub source : ℕ → Option Source
 
@@ -38,8 +35,8 @@ pub record Numbered (A : Type 0) : Type 0 where
   pub item : A
 
 abbrev pub prepend_standing : {A : Type 0} → ℕ → Option A → List (Numbered A) → List (Numbered A)
-prepend_standing n none l = l
-prepend_standing n (some a) l = record { number = n; item = a } ∷ l
+prepend_standing n None l = l
+prepend_standing n (Some a) l = record { number = n; item = a } ∷ l
 
 unfoldable pub standing : {A : Type 0} → (ℕ → Option A) → ℕ → ℕ → List (Numbered A)
 standing place from zero = []
@@ -60,7 +57,7 @@ abbrev pub plain_of : Plant → PlainPlant
 plain_of p = record { site = p.site; generation = p.generation; heat = p.heat; lines = lines_of p }
 
 abbrev pub plain_at : (ℕ → Option Plant) → ℕ → Option PlainPlant
-plain_at place n = Option.map plain_of (place n)
+plain_at place n = option_map plain_of (place n)
 
 abbrev pub plants_in : (ℕ → Option Plant) → List (Numbered PlainPlant)
 plants_in place = standing (plain_at place) 0 8
@@ -145,7 +142,8 @@ captive_at dir plants S = at_site dir (site_of plants S)
 -- "for each source, by rising number: 8 .. 9 .. 10 .. 11 .. 12".
 unfoldable pub source_figure : ReportInput → Source → Outcome Figure
 source_figure input s =
-    and_then (chosen (direction s.side) input.grid (captive_at (direction s.side) (plants_of input)) (consumption compares_factor (sources_of input)) s.supply) (λ x.
+    and_then (chosen (direction s.side) input.grid (captive_at (direction s.side) (plants_of input))
+    (consumption compares_factor (sources_of input)) s.supply) (λ x.
     and_then (loss_of (direction s.side) (consumption compares_loss (sources_of input)) s.loss) (λ T.
     given (figure_of (direction s.side) s.energy x.choice T x.factor)))
 
@@ -181,7 +179,8 @@ side_index Baseline = 2
 unfoldable pub of_side : Side → List Figured → List Figured
 of_side side fs = selected (λ (f : Figured). eqb (side_index f.side) (side_index side)) fs
 
--- "its grams (sum of source figures), its tonnes (grams ÷ 1,000,000, rounded as the side) and its number of standing sources".
+-- "its grams (sum of source figures), its tonnes (grams ÷ 1,000,000, rounded as the side) and its number of standing
+-- sources".
 pub record SideReport : Type 0 where
   pub tonnes : ℕ
   pub grams : ℕ
@@ -214,13 +213,15 @@ report_from fs =
       project = side_report Project fs;
       leakage = side_report Leakage fs;
       baseline = side_report Baseline fs;
-      reduction = reduction (side_report Baseline fs).tonnes (side_report Project fs).tonnes (side_report Leakage fs).tonnes;
+      reduction =
+          reduction (side_report Baseline fs).tonnes (side_report Project fs).tonnes (side_report Leakage fs).tonnes;
     }
 
 -- ---- the answer to a report
 
--- An answer in the paper's numbers and values: accepted, refused with a number, refused with a number at a source, or a report. `damaged` is
--- the answer to a report on a ledger that no list of calls leaves, on which the paper says nothing.
+-- An answer in the paper's numbers and values: accepted, refused with a number, refused with a number at a source, or a
+-- report. `damaged` is the answer to a report on a ledger that no list of calls leaves, on which the paper says
+-- nothing.
 pub data Reply : Type 0 where
   ok : Reply
   refused_with : ℕ → Reply
@@ -253,13 +254,15 @@ acknowledged (given a) = ok
 -- ---- a report on records
 
 -- What the records of a ledger show.
-abbrev pub input_of_records : Grid → List PlantRecord → List SourceRecord → ReportInput
+abbrev pub input_of_records : Option Grid → List (Option Plant) → List (Option Source) → ReportInput
 input_of_records grid plants sources = record { grid = grid; plant = plant_place plants; source = source_place sources }
 
 -- Whether everything that stands meets the limits that an accepted entry meets.
 unfoldable pub intact : ReportInput → Bool
-intact input = grid_intact input.grid && all_intact plant_intact input.plant 8 && all_intact source_intact input.source 32
+intact input =
+    grid_intact input.grid && all_intact plant_intact input.plant 8 && all_intact source_intact input.source 32
 
--- The answer to a report on what records show: `damaged` where something that stands is not what an accepted entry leaves.
+-- The answer to a report on what records show: `damaged` where something that stands is not what an accepted entry
+-- leaves.
 unfoldable pub checked_report_of : ReportInput → Reply
 checked_report_of input = cond (intact input) (report_of input) damaged

@@ -1,12 +1,12 @@
 pub mod Digits
+pub mod Read
 pub mod Steps
-pub mod Places
 pub mod Buffer
 pub mod Puts
 pub mod Decimals
 pub mod Signed
 pub mod Registers
-pub mod Pieces
-pub mod Plain
 pub mod Templates
+pub mod Plain
+pub mod Pieces
 pub mod Examples

@@ -1,30 +1,28 @@
 // A quotient: its operation, a, b and d. The operations are a ÷ d up (0) and down (1), and a × b ÷ d up (2)
 // and down (3). Writes the quotient, or that it is too large.
-use crate::lines::{direction, field, field_u32, read_line, write_number};
-use rounding::Quotient;
+use crate::lines::{Fields, direction, read_line};
 use std::io;
 use std::io::Read;
 
-fn quotient(line: &[u8]) -> Quotient {
-    let operation = field(line, 0);
-    let a = field(line, 1);
+// None where the quotient is too large.
+fn quotient(line: &[u8]) -> Option<u64> {
+    let mut fields = Fields::new(line);
+    let operation = fields.next_u64();
+    let a = fields.next_u64();
+    let b = fields.next_u32();
     if operation < 2 {
-        let d = field(line, 3);
-        return Quotient::Fits(rounding::divide(direction(operation), a, d));
+        return Some(rounding::divide(direction(operation), a, fields.next_u64()));
     }
-    let b = field_u32(line, 2);
-    let d = field_u32(line, 3);
-    rounding::multiply_divide(direction(operation), a, b, d)
+    rounding::multiply_divide(direction(operation), a, b, fields.next_u32())
 }
 
 pub fn answer_line(input: &mut impl Read, rt: &impl Print) -> io::Result<bool> {
-    let mut line = [0u8; 68];
-    if !read_line(input, &mut line)? {
+    let Some(line) = read_line::<68>(input)? else {
         return Ok(false);
-    }
+    };
     match quotient(&line) {
-        Quotient::TooLarge => println!(rt; "too large")?,
-        Quotient::Fits(number) => write_number(rt, number)?,
+        Some(number) => println!(rt; "{number}")?,
+        None => println!(rt; "too large")?,
     }
     Ok(true)
 }

@@ -1,32 +1,28 @@
--- `answers::answer_input` meets its contract: each test in turn. Assumes nothing.
-use borrow.Author.Tests.{le-leb, lt-leb}
-use mathlib.Core.Path.{refl, ap, ◌∙◌}
-use Prim.Native.Nat.{◌*◌}
-use lib.ListN.{length}
+-- `answers::answer_input` meets its contract: the refusal of a longer input is put where it fits. Assumes nothing.
+use Rattle.std.proofs.Common.{◌≡◌, ◌∙◌, sym, List, ℕ, ◌≤◌, cond, length, leb, arith}
+use Rattle.std.proofs.lemmas.Bool.{le-leb, lt-leb}
+use native.Mathlib.Decide.{dec_le}
 use Rattle.text.specs.Word.{bytes}
-use Rattle.text.proofs.Buffer.{after-fits}
+use Rattle.text.specs.Buffer.{put_at, after_put}
+use Rattle.text.proofs.Buffer.{put-none}
 use Rattle.answers.specs.Input.{output}
-use Rattle.answers.specs.declared.Written.TheVariants.{Bytes}
 use Rattle.answers.proofs.answer_input.Goals as goal
 
-pub returns-then-buffer-lt-BYTES_OF_REFUSAL : goal.returns-then-buffer-lt-BYTES_OF_REFUSAL
-returns-then-buffer-lt-BYTES_OF_REFUSAL c = rw (lt-leb _ 65536 c.if-input-gt-INPUT_LIMIT.true, lt-leb 11 _ c.if-buffer-lt-BYTES_OF_REFUSAL.true) (record { value = refl; buffer_after = refl })
+pub returns-then-input-gt-INPUT_LIMIT-clause-value : goal.returns-then-input-gt-INPUT_LIMIT-clause-value
+unfolding output after_put
+returns-then-input-gt-INPUT_LIMIT-clause-value c =
+    rw (lt-leb _ 65536 c.if-input-gt-INPUT_LIMIT.true) c.put_word.ensures.value
 
-pub returns-then-input-gt-INPUT_LIMIT : goal.returns-then-input-gt-INPUT_LIMIT
+-- A text that does not fit changes nothing.
+put-if-fits : (d w : List ℕ) → put_at d 0 w ≡ cond (leb (length w) (length d)) (put_at d 0 w) d
+put-if-fits d w = go (dec_le (length w) (length d))
+  where
+    go : Dec (length w ≤ length d) → put_at d 0 w ≡ cond (leb (length w) (length d)) (put_at d 0 w) d
+    go (yes h) = rw (le-leb (length w) (length d) h)
+    go (no h) = rw (lt-leb (length w) (length d) (omega arith)) (sym (put-none d 0 w (omega arith)).1)
+
+pub returns-then-input-gt-INPUT_LIMIT-clause-buffer_after : goal.returns-then-input-gt-INPUT_LIMIT-clause-buffer_after
 unfolding output
-returns-then-input-gt-INPUT_LIMIT c =
-    rw (lt-leb _ 65536 c.if-input-gt-INPUT_LIMIT.true, le-leb 11 _ c.if-buffer-lt-BYTES_OF_REFUSAL.false)
-    (record {
-      value = ap Bytes (c.put_word.ensures.value ∙ after-fits _ 0 (bytes "refused 14\n") c.if-buffer-lt-BYTES_OF_REFUSAL.false);
-      buffer_after = c.put_word.ensures.buffer_after;
-    })
-
-pub returns-then-buffer-input : goal.returns-then-buffer-input
-returns-then-buffer-input c =
-    let n = length c.args.input.now in
-    rw (le-leb n 65536 c.if-input-gt-INPUT_LIMIT.false, lt-leb (18 * n) _ c.if-buffer-input.true) (record { value = refl; buffer_after = refl })
-
-pub returns : goal.returns
-returns c =
-    let n = length c.args.input.now in
-    rw (le-leb n 65536 c.if-input-gt-INPUT_LIMIT.false, le-leb (18 * n) _ c.if-buffer-input.false) (record { value = ap Bytes c.answer_lines.ensures.value; buffer_after = c.answer_lines.ensures.buffer_after })
+returns-then-input-gt-INPUT_LIMIT-clause-buffer_after c =
+    rw (lt-leb _ 65536 c.if-input-gt-INPUT_LIMIT.true)
+    (c.put_word.ensures.buffer_after ∙ put-if-fits c.args.buffer.now (bytes "refused 14\n"))

@@ -1,86 +1,60 @@
--- `forms::read_source` meets its contract, by what was read at each place of the code. Assumes nothing.
-use mathlib.Core.Path.{◌≡◌, refl, sym, ap, ◌∙◌}
+-- `forms::read_source` meets its contract. Assumes nothing.
+use mathlib.Core.Path.{refl}
 use mathlib.Core.List.{map-map}
-use lib.ListN.{drop}
-use Rattle.text.specs.Template.{template_in}
-use Rattle.text.proofs.Templates.{template-read}
-use Rattle.forms.specs.Templates.{source_opening}
-use Rattle.forms.specs.Reading.{one_of, sides, supplies, losses, source_in}
 use Rattle.metering.specs.Energy.{no_meter}
-use Rattle.forms.specs.Calls.{meter_of, call_of, fitted_supply, fitted_loss, fitted_meter, fitted, plain_line, line_of}
-use Rattle.forms.specs.Steps.{found, side_meaning, supply_meaning, loss_meaning}
-use Rattle.forms.proofs.Lists.{map-four}
-use Rattle.forms.proofs.Lines.{part-missing, ReadAs, part-read, source-call, nothing_read}
+use Rattle.forms.specs.Reading.{source_in, meters}
+use Rattle.forms.specs.Calls.{meter_of, call_of, fitted_supply, fitted_loss, fitted_meter, fitted_meter_of, fitted}
+use Rattle.forms.proofs.Lists.{first-parts, parts-count, parts-rest, map-four}
+use Rattle.forms.proofs.Lines.{part-missing, part-read, source-call}
 use Rattle.forms.proofs.read_source.Goals as goal
 
-pub returns-in_default : goal.returns-in_default
+pub returns-in_err-numbers : goal.returns-in_err-numbers
 unfolding source_in
-returns-in_default c =
-    let s = c.args.line.now in
-    let both = nothing_read s (source_in s) c.no_form.ensures (rw (template-read _ s 0 c.read_template.ensures c.in_default.is)) in
-    record { call = both.0; parts = both.1 }
+returns-in_err-numbers c = rw (c.from_residual.ensures, ← c.in_err-numbers.ensures)
 
-pub returns-in_default-read_side : goal.returns-in_default-read_side
+pub returns-in_err-side : goal.returns-in_err-side
 unfolding source_in
-returns-in_default-read_side c =
-    let s = c.args.line.now in
-    let number_read :
-    template_in source_opening s ≡ found s c.in-Match.numbers c.in-Match.at = template-read _ s 0 c.read_template.ensures c.in-Match.is in
-    let both = nothing_read s (source_in s) c.no_form-in_default-read_side.ensures
-    (rw (number_read, sym c.read_side.ensures ∙ ap (side_meaning s) c.in_default-read_side.is)) in
-    record { call = both.0; parts = both.1 }
+returns-in_err-side c = rw (c.from_residual-in_err-side.ensures, ← c.in_ok-numbers.ensures, ← c.in_err-side.ensures)
 
-pub returns-in_default-read_supply : goal.returns-in_default-read_supply
+pub returns-in_err-supply : goal.returns-in_err-supply
 unfolding source_in
-returns-in_default-read_supply c =
-    let s = c.args.line.now in
-    let number_read :
-    template_in source_opening s ≡ found s c.in-Match.numbers c.in-Match.at = template-read _ s 0 c.read_template.ensures c.in-Match.is in
-    let side-read :
-    one_of sides (drop c.in-Match.at s) ≡ found s c.in-Found.side c.in-Found.after_side = sym c.read_side.ensures ∙ ap (side_meaning s) c.in-Found.is in
-    let both = nothing_read s (source_in s) c.no_form-in_default-read_supply.ensures
-    (rw (
-      number_read,
-      side-read,
-      part-missing fitted_supply (one_of supplies (drop c.in-Found.after_side s))
-          (sym (ap (supply_meaning s) c.in_default-read_supply.is) ∙ c.read_supply.ensures),
-    )) in
-    record { call = both.0; parts = both.1 }
+returns-in_err-supply c =
+    rw (
+      c.from_residual-in_err-supply.ensures,
+      ← c.in_ok-numbers.ensures,
+      ← c.in_ok-side.ensures,
+      part-missing fitted_supply c.in_err-supply.ensures,
+    )
 
-pub returns-in_default-read_loss : goal.returns-in_default-read_loss
+pub returns-in_err-loss : goal.returns-in_err-loss
 unfolding source_in
-returns-in_default-read_loss c =
-    let s = c.args.line.now in
-    let number_read :
-    template_in source_opening s ≡ found s c.in-Match.numbers c.in-Match.at = template-read _ s 0 c.read_template.ensures c.in-Match.is in
-    let side-read :
-    one_of sides (drop c.in-Match.at s) ≡ found s c.in-Found.side c.in-Found.after_side = sym c.read_side.ensures ∙ ap (side_meaning s) c.in-Found.is in
-    let supply-read :
-    ReadAs fitted_supply (one_of supplies (drop c.in-Found.after_side s)) s c.in-Found-read_supply.supply c.in-Found-read_supply.after_supply = part-read fitted_supply _ s _ c.in-Found-read_supply.after_supply (sym (ap (supply_meaning s) c.in-Found-read_supply.is) ∙ c.read_supply.ensures) in
-    let both = nothing_read s (source_in s) c.no_form-in_default-read_loss.ensures
-    (rw (
-      number_read,
-      side-read,
-      supply-read.1,
-      part-missing fitted_loss (one_of losses (drop c.in-Found-read_supply.after_supply s))
-          (sym (ap (loss_meaning s) c.in_default-read_loss.is) ∙ c.read_loss.ensures),
-    )) in
-    record { call = both.0; parts = both.1 }
+returns-in_err-loss c =
+    let supply = part-read fitted_supply c.in_ok-supply.ensures in
+    rw (
+      c.from_residual-in_err-loss.ensures,
+      ← c.in_ok-numbers.ensures,
+      ← c.in_ok-side.ensures,
+      supply.1,
+      part-missing fitted_loss c.in_err-loss.ensures,
+    )
 
 pub returns : goal.returns
-unfolding source_in call_of fitted line_of plain_line
+unfolding source_in call_of fitted
 returns c =
-    let s = c.args.line.now in
-    let number_read :
-    template_in source_opening s ≡ found s c.in-Match.numbers c.in-Match.at = template-read _ s 0 c.read_template.ensures c.in-Match.is in
-    let side-read :
-    one_of sides (drop c.in-Match.at s) ≡ found s c.in-Found.side c.in-Found.after_side = sym c.read_side.ensures ∙ ap (side_meaning s) c.in-Found.is in
-    let supply-read :
-    ReadAs fitted_supply (one_of supplies (drop c.in-Found.after_side s)) s c.in-Found-read_supply.supply c.in-Found-read_supply.after_supply = part-read fitted_supply _ s _ c.in-Found-read_supply.after_supply (sym (ap (supply_meaning s) c.in-Found-read_supply.is) ∙ c.read_supply.ensures) in
-    let loss-read :
-    ReadAs fitted_loss (one_of losses (drop c.in-Found-read_supply.after_supply s)) s c.in-Found-read_loss.loss c.in-Found-read_loss.after_loss = part-read fitted_loss _ s _ c.in-Found-read_loss.after_loss (sym (ap (loss_meaning s) c.in-Found-read_loss.is) ∙ c.read_loss.ensures) in
-    record {
-      call = rw (number_read, side-read, supply-read.1, loss-read.1, c.byte_field-count.ensures, c.byte_field.ensures, c.read_meters-meters.ensures.meters, c.read_meters-meters.ensures.count, c.read_meters-meters.ensures.rest, map-four fitted_meter no_meter _ refl, map-map fitted_meter meter_of _)
-          (source-call _ _ _ _ _ _ _ _ _ supply-read.2 loss-read.2);
-      parts = rw c.plain_line-empty.ensures;
-    }
+    let supply = part-read fitted_supply c.in_ok-supply.ensures in
+    let loss = part-read fitted_loss c.in_ok-loss.ensures in
+    let p = c.read_parts-meter_count.ensures in
+    rw (
+      ← c.in_ok-numbers.ensures,
+      ← c.in_ok-side.ensures,
+      supply.1,
+      loss.1,
+      c.byte_field.ensures,
+      c.byte_field-2.ensures,
+      first-parts meters fitted_meter_of _ _ no_meter c.empty-meters.ensures p.places,
+      parts-count meters fitted_meter_of _ p.count,
+      parts-rest meters fitted_meter_of _ p.rest,
+      map-four fitted_meter no_meter _ refl,
+      map-map fitted_meter meter_of,
+    )
+    (source-call supply.2 loss.2)

@@ -1,18 +1,18 @@
 use mathlib.Core.Path.{◌≡◌}
-use Prim.Native.Nat.{◌-◌, ◌*◌, ◌≤◌}
+use mathlib.Core.Bool.{true}
+use Prim.Native.Nat.{◌*◌, ◌≤◌}
 use lib.ListN.{take}
+use Rattle.std.specs.List.{list_all, list_any}
 use Rattle.metering.specs.Reading.{limit}
-use Rattle.metering.specs.Steps.{meters_read}
-use Rattle.metering.specs.declared.MeterRead.TheVariants.{Moved}
-use Rattle.metering.proofs.Energy.{joined, left}
+use Rattle.metering.specs.Energy.{is_accepted, runs_back, rounded_adding, rounded_taking}
 use Rattle.metering.proofs.read_meters.Given as goal
 
-abbrev pub invariant-loop-i : goal.invariant-loop-i
-invariant-loop-i l =
-    (l.i ≤ l.count)
-    × (meters_read l.direction (take l.count l.meters) ≡ joined (Moved l.adds l.takes l.back) (left l.direction l.meters l.count l.i))
-    × (l.adds ≤ l.i * limit)
-    × (l.takes ≤ l.i * limit)
-
-abbrev pub decreases-loop-i : goal.decreases-loop-i
-decreases-loop-i l = l.count - l.i
+abbrev pub invariant-loop-meter : goal.invariant-loop-meter
+invariant-loop-meter l = record {
+  accepted : list_all is_accepted (take l.meter-index l.meters) ≡ true;
+  adds_so_far : l.adds ≡ rounded_adding l.direction (take l.meter-index l.meters);
+  takes_so_far : l.takes ≡ rounded_taking l.direction (take l.meter-index l.meters);
+  back_so_far : l.back ≡ list_any runs_back (take l.meter-index l.meters);
+  few_adds : l.adds ≤ l.meter-index * limit;
+  few_takes : l.takes ≤ l.meter-index * limit;
+}

@@ -13,7 +13,10 @@ overflow_mul-milligrams c =
 pub overflow_mul-energy : goal.overflow_mul-energy
 overflow_mul-energy c =
     let a = c.args in
-    record { fits = rw c.divide-factor.ensures (omega (arith, (products-fit a.energy a.heat a.milligrams (omega arith) c.requires.2).1)) }
+    record {
+      fits = rw c.divide-factor.ensures
+          (omega (arith, (products-fit a.energy a.heat a.milligrams (omega arith) c.requires.2).1));
+    }
 
 pub returns : goal.returns
 unfolding allocated

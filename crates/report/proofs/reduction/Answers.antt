@@ -4,7 +4,8 @@ use Rattle.report.proofs.Signed.{number_read, difference-fits, difference-read, 
 use Rattle.report.proofs.reduction.Goals as goal
 
 pub overflow_sub-result : goal.overflow_sub-result
-overflow_sub-result c = rw (number_read c.requires.0, number_read c.requires.1) (difference-fits c.requires.0 c.requires.1)
+overflow_sub-result c =
+    rw (number_read c.requires.0, number_read c.requires.1) (difference-fits c.requires.0 c.requires.1)
 
 pub overflow_sub-result-2 : goal.overflow_sub-result-2
 unfolding reduction

@@ -1,117 +1,61 @@
--- `report::site_sums` meets its contract. The invariant: the plants under the numbers so far are intact, and the sums of each site and what the
--- plants that are left add to them come to the site's. Assumes nothing.
-use borrow.Author.Rules.{rules}
-use mathlib.Core.Path.{◌≡◌, refl, sym, subst, ap, ◌∙◌}
-use mathlib.Core.Bool.{true, true≢false}
-use mathlib.Core.Option.{some}
-use Prim.Native.Nat.{ℕ, ◌+◌, ◌≤◌, ◌<◌, zero-le}
+-- `report::site_sums` meets its contract: plant by plant the sums of each site stay those of the plants before. Assumes
+-- nothing.
+use Rattle.std.specs.Prelude.{Some}
+use mathlib.Core.Path.{◌≡◌, ap, subst, ◌∙◌}
+use mathlib.Core.Bool.{true}
+use Prim.Native.Nat.{◌≤◌}
 use native.Mathlib.Omega.{arith}
-use lib.ListN.{length, get_or, replicate, get_or-replicate, length-set}
 use Rattle.records.specs.Records.{plant_place}
-use Rattle.report.specs.Intact.{plant_intact, all_intact}
+use Rattle.report.specs.Intact.{plant_intact}
 use Rattle.report.specs.Report.{plain_of}
-use Rattle.report.specs.Steps.{no_plants, plant_sums, SiteWithin, PlantWithin}
-use Rattle.report.proofs.Summing.{plant-stands, no-plant-stands, intact-next, not-intact, added_sums, plant-site-fits, plant-gave, plant-damaged, sums-widen, SiteSummed, site-start, site-kept, site-end, sites-turn}
+use Rattle.report.specs.Steps.{plant_sums, SiteWithin}
+use Rattle.report.proofs.Summing.{not-intact, plant-site-fits, test-gave, test-gave-none, sums-widen, sites-start}
+use Rattle.report.proofs.Summing.{sites-skip, sites-add, sites-end}
 use Rattle.report.proofs.site_sums.Goals as goal
-use Rattle.report.proofs.site_sums.Goals.{In-loop-i, After-plant-plant, then-held+in-Summed, else-held, In-Summed}
+use Rattle.report.proofs.site_sums.Goals.{In_ok-more, in-Some+in_ok-more, in_default}
 
--- There are eight records.
-inside : (c : In-loop-i) → c.loop-i.i < length c.args.plants
-inside c = rw c.well_formed.0.1.0.1 c.loop-i-test.true
+pub loop-held-init : goal.loop-held-init
+loop-held-init c =
+    let e = c.default-sites.ensures in
+    sites-start (plant_place c.args.plants.now) c.default-sites.result e.0 e.1.0 e.1.1
 
--- The plant that stands under the number.
-stands : (c : After-plant-plant)
-    →
-    plant_place c.args.plants c.loop-i.i ≡ some c.plant-plant.result
-stands c =
-    plant-stands c.args.plants c.loop-i.i _ _ (inside c.before.before.before) c.if-held.true c.plant-plant.ensures
+pub returns-in_err-more : goal.returns-in_err-more
+returns-in_err-more c =
+    let damaged = ap plant_intact c.in-Some.is ∙ test-gave-none _ _ c.in_err-more.ensures.summed in
+    rw c.from_residual.ensures
+    (not-intact plant_intact (plant_place c.args.plants.now) 8 c.loop-held.held-index c.loop-held-test.true damaged)
 
-pub loop-i-init : goal.loop-i-init
-unfolding all_intact
-loop-i-init c =
-    let rs = c.args.plants in
-    let none-at : (S : ℕ) → S < 4 → no_plants ≡ get_or (replicate 4 c.empty-none.result) S no_plants =
-    λ S h. sym (get_or-replicate 4 S c.empty-none.result no_plants h ∙ c.empty-none.ensures) in (
-      zero-le,
-      refl,
-      refl,
-      λ S h. subst (SiteSummed S (plant_place rs) 8 0) (none-at S (omega arith)) (site-start S (plant_place rs) 8),
+-- The plant is intact, and what is summed up of it is what it adds.
+gave : (c : In_ok-more)
+    → (plant_intact (Some c.in-Some.plant) ≡ true) × (c.in_ok-more.more ≡ plant_sums (plain_of c.in-Some.plant))
+gave c = test-gave _ _ c.in_ok-more.more c.in_ok-more.ensures.summed
+
+site-fits : (c : In_ok-more) → c.in-Some.plant.site ≤ 3
+site-fits c = plant-site-fits c.in-Some.plant (gave c).0
+
+pub bounds-sites-plant : goal.bounds-sites-plant
+bounds-sites-plant c = omega (arith, site-fits (goal.at.bounds-sites-plant c).In_ok-more)
+
+pub add-requires : goal.add-requires
+add-requires c =
+    let h = c.loop-held-test.true in (
+      sums-widen (omega arith) (c.loop-held.invariant.sums _ (site-fits (goal.at.add-requires c).In_ok-more)).within,
+      c.in_ok-more.ensures.bound,
     )
 
-pub returns-in_default : goal.returns-in_default
-returns-in_default c =
-    let damaged = plant-damaged c.plant-plant.result (sym c.in_default.is ∙ c.plant_summed.ensures.summed) in record {
-      intact = sym (not-intact plant_intact (plant_place c.args.plants) 8 c.loop-i.i c.loop-i-test.true
-          (ap plant_intact (stands c.before.before) ∙ damaged));
-      sites = λ e. absurd (true≢false (sym e));
-    }
-
--- What is summed up of it.
-gave : (c : In-Summed) → let p = c.plant-plant.result in
-    (plant_intact (some p) ≡ true) × (c.in-Summed.more ≡ plant_sums (plain_of p))
-gave c =
-    plant-gave c.plant-plant.result _ (sym c.in-Summed.is ∙ c.plant_summed.ensures.summed)
-
-site-fits : (c : In-Summed) → c.plant-plant.result.site ≤ 3
-site-fits c =
-    plant-site-fits _ (gave c).0
-
-pub offset_bounds-sites-at : goal.offset_bounds-sites-at
-offset_bounds-sites-at c =
-    record { fits = omega (arith, (site-fits (goal.at.offset_bounds-sites-at c).In-Summed)) }
-
-pub bounds-sites-at : goal.bounds-sites-at
-bounds-sites-at c =
-    omega (arith, (site-fits (goal.at.bounds-sites-at c).In-Summed))
-
-pub plus-requires : goal.plus-requires
-plus-requires c =
-    let within : SiteWithin 1 c.in-Summed.more = subst PlantWithin c.in-Summed.is c.plant_summed.ensures.bound in
-    let h = c.loop-i-test.true in
-    (sums-widen (omega arith) (c.loop-i.invariant.3 _ (site-fits (goal.at.plus-requires c).In-Summed)).within, within)
-
-pub offset_bounds-sites-at-then-held : goal.offset_bounds-sites-at-then-held
-offset_bounds-sites-at-then-held c =
-    record { fits = omega (arith, (site-fits (goal.at.offset_bounds-sites-at-then-held c).In-Summed)) }
-
-pub bounds-sites-at-then-held : goal.bounds-sites-at-then-held
-bounds-sites-at-then-held c =
-    omega (arith, (site-fits (goal.at.bounds-sites-at-then-held c).In-Summed))
-
-pub loop-i-preserved : goal.loop-i-preserved
-loop-i-preserved c =
-    let rs = c.args.plants in
-    let i = c.loop-i.i in
-    let h = c.loop-i-test.true in
-    let intact : plant_intact (plant_place rs i) ≡ true → all_intact plant_intact (plant_place rs) (i + 1) ≡ true =
-    λ e. intact-next plant_intact (plant_place rs) i e c.loop-i.invariant.1 in
-    elim c.if-held.branch [
-      | then-held+in-Summed w ↦
-          let p = w.plant-plant.result in
-          let at : After-plant-plant = record { before = record { before = c.before; if-held = w.if-held }; plant-plant = w.plant-plant } in
-          let gave : (plant_intact (some p) ≡ true) × (w.in-Summed.more ≡ plant_sums (plain_of p)) =
-          plant-gave p _ (sym w.in-Summed.is ∙ w.plant_summed.ensures.summed) in
-          let within : SiteWithin 1 w.in-Summed.more = subst PlantWithin w.in-Summed.is w.plant_summed.ensures.bound in
-          let site-fits : p.site ≤ 3 = plant-site-fits _ gave.0 in
-          rw (w.sites-is, w.plus.ensures, gave.1) (
-            search rules,
-            intact (ap plant_intact (stands at) ∙ gave.0),
-            length-set c.loop-i.sites p.site _ ∙ c.loop-i.invariant.2,
-            λ S m. sites-turn (plant_place rs) 8 i c.loop-i.sites p h (stands at) (omega (arith, c.loop-i.invariant.2, site-fits))
-                (subst (SiteWithin 1) gave.1 within) S (c.loop-i.invariant.3 S m),
-          )
-      | else-held w ↦
-          let e = no-plant-stands rs i _ (inside c.before.before) w.if-held.false in
-          rw w.sites-is (
-            search rules,
-            intact (ap plant_intact e),
-            c.loop-i.invariant.2,
-            λ S m. site-kept S (plant_place rs) 8 i _ (c.loop-i.invariant.3 S m) h (ap (added_sums S) e),
-          )
+pub loop-held-preserved : goal.loop-held-preserved
+loop-held-preserved c =
+    let place = plant_place c.args.plants.now in
+    let i = c.loop-held.held-index in
+    let h = c.loop-held-test.true in
+    elim c.match-held.branch [
+      | in-Some+in_ok-more w ↦
+          let g = test-gave _ _ w.in_ok-more.more w.in_ok-more.ensures.summed in
+          rw (w.sites-is, w.add.ensures, g.1)
+          (sites-add place i c.loop-held.sites c.loop-held.invariant h w.in-Some.plant w.in-Some.is g.0
+          (subst (SiteWithin 1) g.1 w.in_ok-more.ensures.bound))
+      | in_default w ↦ rw w.sites-is (sites-skip place i c.loop-held.sites c.loop-held.invariant h w.in_default.is)
     ]
 
 pub returns : goal.returns
-returns c =
-    let place = plant_place c.args.plants in
-    let i : c.loop-i.i ≡ 8 = omega (arith, c.loop-i.invariant.0, c.loop-i-test.false) in
-    record { intact = sym (rw i at c.loop-i.invariant.1); sites = λ e S h. site-end S place 8 c.loop-i.i _ (c.loop-i.invariant.3 S h) c.loop-i-test.false }
+returns c = sites-end c.args.plants.now c.loop-held.held-index c.loop-held.sites c.loop-held.invariant (omega arith)

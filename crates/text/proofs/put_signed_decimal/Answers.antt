@@ -16,24 +16,24 @@ returns-then-number-ge0 c =
     rw (signed-at-least-zero c.args.number c.ranges.number c.if-number-ge0.true, ← m)
     c.put_decimal.ensures
 
-pub returns-then-buffer-at : goal.returns-then-buffer-at
-returns-then-buffer-at c =
+pub returns-then-at-buffer : goal.returns-then-at-buffer
+returns-then-at-buffer c =
     let both = put-none c.args.buffer.now c.args.at (45 ∷ decimal (nat_abs c.args.number)) (omega arith) in
     rw (signed-below-zero c.args.number c.ranges.number c.if-number-ge0.false)
     (record { value = both.0; buffer_after = both.1 })
 
-pub returns-then-next-buffer : goal.returns-then-next-buffer
-returns-then-next-buffer c =
+pub returns-in_err-next : goal.returns-in_err-next
+returns-in_err-next c =
     let m = c.magnitude-2.ensures ∙ ap nat_abs (to_z-of_z w64 c.args.number c.ranges.number) in
-    let p = c.put_decimal-next.ensures in
-    let both = put-before c.args.buffer.now c.args.at 45 (decimal c.magnitude-2.result) p.value p.buffer_after c.if-next-buffer.true in
+    let p = c.in_err-next.ensures in
+    let both = put-before-none c.args.buffer.now c.args.at 45 (decimal c.magnitude-2.result) p.value p.buffer_after in
     rw (signed-below-zero c.args.number c.ranges.number c.if-number-ge0.false, ← m)
-    (record { value = both.0; buffer_after = both.1 })
+    (record { value = c.from_residual.ensures ∙ both.0; buffer_after = both.1 })
 
-pub returns-else-next-buffer : goal.returns-else-next-buffer
-returns-else-next-buffer c =
+pub returns : goal.returns
+returns c =
     let m = c.magnitude-2.ensures ∙ ap nat_abs (to_z-of_z w64 c.args.number c.ranges.number) in
-    let p = c.put_decimal-next.ensures in
-    let both = put-before-none c.args.buffer.now c.args.at 45 (decimal c.magnitude-2.result) p.value p.buffer_after c.if-next-buffer.false in
+    let p = c.in_ok-next.ensures in
+    let both = put-before c.args.buffer.now c.args.at 45 (decimal c.magnitude-2.result) p.value p.buffer_after in
     rw (signed-below-zero c.args.number c.ranges.number c.if-number-ge0.false, ← m)
     (record { value = both.0; buffer_after = both.1 })

@@ -1,4 +1,5 @@
--- `metering::Registers::run_back` meets its contract: the order of registers that can be read is that of their patterns. Assumes nothing.
+-- `metering::Registers::run_back` meets its contract: the order of registers that can be read is that of their
+-- patterns. Assumes nothing.
 use mathlib.Core.Path.{sym, subst}
 use lib.Dec.{T}
 use Rattle.metering.proofs.Patterns.{number-no-nan, pattern-order}

@@ -1,8 +1,0 @@
--- `answers::line::plant_after` meets its contract: a drop, or else an entry. Assumes nothing.
-use Rattle.answers.proofs.line.plant_after.Goals as goal
-
-pub returns-then-line : goal.returns-then-line
-returns-then-line c = rw c.if-line.true c.dropped.ensures
-
-pub returns : goal.returns
-returns c = rw c.if-line.false c.entered.ensures
