@@ -18,7 +18,7 @@ row_within : (s : SiteSums) (row : List (Result ℕ Refusal)) → RowOf s row �
     → CaptiveWithin (in_row row dir)
 row_within s row h dir F e = (captive-given dir (milligrams_in dir s) s.generation F (sym (h dir) ∙ e)).2
 
--- Past the rows there is no factor.
+-- Past the rows the factor is 0.
 within : (a b c d : List (Result ℕ Refusal)) → ((dir : Direction) → CaptiveWithin (in_row a dir))
     → ((dir : Direction) → CaptiveWithin (in_row b dir))
     → ((dir : Direction) → CaptiveWithin (in_row c dir)) → ((dir : Direction) → CaptiveWithin (in_row d dir))
