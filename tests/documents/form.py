@@ -19,8 +19,8 @@ ROOT = Path(__file__).resolve().parents[2]
 # The most lines of each, and of each note on a landing.
 LINES = {'README.md': 95, 'docs/MANUAL.md': 240, 'docs/ANSWER.md': 130, 'docs/PROVED.md': 300,
          'docs/CODE.md': 90, 'docs/DECISIONS.md': 265, 'docs/MEASURED.md': 145,
-         'docs/LANDINGS.md': 40, 'docs/PORT.md': 150, 'docs/DESIGN-PASS.md': 780, 'box/README.md': 135,
-         'tests/wrong/README.md': 110}
+         'docs/LANDINGS.md': 40, 'docs/PORT.md': 150, 'docs/DESIGN-PASS.md': 780, 'docs/LOOK-BACK.md': 150,
+         'box/README.md': 135, 'tests/wrong/README.md': 110}
 NOTE_LINES = 25
 NOTES = 'docs/landings/'
 
