@@ -13,7 +13,7 @@ use borrow.Author.Tests.{leb-true}
 use Rattle.std.specs.List.{list_all, list_any}
 use Rattle.std.proofs.lemmas.List.Folds.{list_all_at, list_all_more, list_any_more}
 use Rattle.rounding.specs.declared.Direction.{Direction}
-use Rattle.rounding.specs.Outcome.{refused, given, refuse_unless}
+use Rattle.rounding.specs.Outcome.{Outcome, refused, given, refuse_unless}
 use Rattle.rounding.specs.Divided.{divided, opposite, sum}
 use Rattle.rounding.specs.Ratio.{◌÷◌, whole, Conservative}
 use Rattle.rounding.proofs.Ratio.{all_of, sum-conservative, less-conservative}
@@ -24,7 +24,7 @@ use Rattle.metering.specs.Energy.{first_of, last_of, adding_of, taking_of, addin
 use Rattle.metering.specs.Energy.{runs_back}
 use Rattle.metering.specs.Energy.{exact_energy, rounded_adding, rounded_taking, judged_readings, judged_meters}
 use Rattle.metering.specs.Energy.{settled_energy}
-use Rattle.metering.specs.Steps.{is_read, meter_moved, meter_read, meters_read}
+use Rattle.metering.specs.Steps.{is_read, meter_moved, meter_read, meters_moved, meters_read}
 use Rattle.metering.specs.declared.Reading.{Reading}
 use Rattle.metering.specs.declared.Sign.{Sign}
 use Rattle.metering.specs.declared.Sign.TheVariants.{Plus, Minus}
@@ -68,14 +68,14 @@ pub read-ratio : (m : Meter) → is_read m ≡ true → 0 < m.ratio
 read-ratio m h = ratio-above-zero m.ratio (and_both (has_ratio m) (is_accepted m) h).0
 
 module _ (dir : Direction) (m : Meter) where
-  -- What a meter gave is its rounded readings, and its readings are accepted.
-  pub was-moved : (x : Moved) → given x ≡ meter_read dir m → (is_accepted m ≡ true) × (x ≡ meter_moved dir m)
+  -- What a meter gave is its rounded readings, and the meter is read.
+  pub was-moved : (x : Moved) → given x ≡ meter_read dir m → (is_read m ≡ true) × (x ≡ meter_moved dir m)
   was-moved x e =
-      let h = test-held 3 (is_accepted m) (given (meter_moved dir m)) (sym e) in
+      let h = test-held 3 (is_read m) (given (meter_moved dir m)) (sym e) in
       (h.0, sym (given_is h.1))
 
-  pub was-refused : (n : ℕ) → refused n ≡ meter_read dir m → (is_accepted m ≡ false) × (n ≡ 3)
-  was-refused n e = go (is_accepted m) e
+  pub was-refused : (n : ℕ) → refused n ≡ meter_read dir m → (is_read m ≡ false) × (n ≡ 3)
+  was-refused n e = go (is_read m) e
     where
       go : (t : Bool) → refused n ≡ refuse_unless 3 t (given (meter_moved dir m)) → (t ≡ false) × (n ≡ 3)
       go true h = absurd (never-given h)
@@ -88,7 +88,7 @@ module _ (dir : Direction) (m : Meter) where
   reading-refused d r n f k e =
       let w : refused n ≡ refuse_unless 3 (accepted m.ratio r) (given (divided d (exact_by m.ratio r) unit)) =
       rw f at e in
-      go (is_accepted m) (accepted m.ratio r) k w
+      rw f (go (is_accepted m) (accepted m.ratio r) k w)
     where
       go : (s t : Bool) → (s ≡ true → t ≡ true)
           → refused n ≡ refuse_unless 3 t (given (divided d (exact_by m.ratio r) unit))
@@ -103,6 +103,34 @@ module _ (dir : Direction) (m : Meter) where
   meter-within h =
       let p = both-accepted m h in
       (rounded-within dir m.ratio (adding m) p.0, rounded-within (opposite dir) m.ratio (taking m) p.1)
+
+-- ---- a list of meters
+
+-- Two parts of a list, put together.
+abbrev pub joined : Outcome Moved → Outcome Moved → Outcome Moved
+joined (given x) (given y) =
+    given record {
+      readings = record {
+        adds = x.readings.adds + y.readings.adds;
+        takes = x.readings.takes + y.readings.takes;
+      };
+      back = x.back || y.back;
+    }
+joined (given x) (refused n) = refused n
+joined (refused n) o = refused n
+
+-- A list gives what its first meter and the others give, put together.
+meters-cons : (dir : Direction) (m : Meter) (ms : List Meter)
+    → meters_read dir (m ∷ ms) ≡ joined (meter_read dir m) (meters_read dir ms)
+unfolding rounded_adding rounded_taking sum
+meters-cons dir m ms = go (is_read m) (list_all is_read ms) (meter_moved dir m) (meters_moved dir ms)
+  where
+    go : (s u : Bool) (x y : Moved)
+        → refuse_unless 3 (s && u) (joined (given x) (given y))
+        ≡ joined (refuse_unless 3 s (given x)) (refuse_unless 3 u (given y))
+    go true true x y = refl
+    go true false x y = refl
+    go false u x y = refl
 
 -- ---- one more meter of a list
 
@@ -130,10 +158,10 @@ module _
     pub next-within : (x.readings.adds ≤ limit) × (x.readings.takes ≤ limit)
     next-within =
         let w = was-moved dir (get_or ms i d) x gave in
-        rw w.1 (meter-within dir (get_or ms i d) w.0)
+        rw w.1 (meter-within dir (get_or ms i d) (and_both _ (is_accepted (get_or ms i d)) w.0).1)
 
-    pub next-accepted : list_all is_accepted (take i ms) ≡ true → list_all is_accepted (take (i + 1) ms) ≡ true
-    next-accepted a = rw (list_all_more is_accepted ms i d h, a) (was-moved dir (get_or ms i d) x gave).0
+    pub next-read : list_all is_read (take i ms) ≡ true → list_all is_read (take (i + 1) ms) ≡ true
+    next-read a = rw (list_all_more is_read ms i d h, a) (was-moved dir (get_or ms i d) x gave).0
 
     pub next-adds : rounded_adding dir (take (i + 1) ms) ≡ rounded_adding dir (take i ms) + x.readings.adds
     unfolding rounded_adding
@@ -150,12 +178,19 @@ module _
     pub next-back : list_any runs_back (take (i + 1) ms) ≡ (list_any runs_back (take i ms) || x.back)
     next-back = rw (was-moved dir (get_or ms i d) x gave).1 (list_any_more runs_back ms i d h)
 
+-- Meters whose ratios are in their range are read where they are accepted.
+pub all_read : (ms : List Meter) → list_all has_ratio ms ≡ true → list_all is_read ms ≡ list_all is_accepted ms
+all_read [] h = refl
+all_read (m ∷ ms) h =
+    let p = and_both (has_ratio m) (list_all has_ratio ms) h in
+    rw (p.0, all_read ms p.1) refl
+
 -- A meter that is refused refuses all.
 pub meters-refused : (dir : Direction) (ms : List Meter) (i : ℕ) (d : Meter) (n : ℕ) → i < length ms
     → refused n ≡ meter_read dir (get_or ms i d) → refused n ≡ meters_read dir ms
 meters-refused dir ms i d n h e =
     let w = was-refused dir (get_or ms i d) n e in
-    rw (list_all_at is_accepted ms i d h w.0, w.1) refl
+    rw (list_all_at is_read ms i d h w.0, w.1) refl
 
 -- ---- the energy
 

@@ -37,9 +37,9 @@ meter_moved dir m =
       back = runs_back m;
     }
 
--- Number 3 is all that refuses a meter whose ratio is in its range.
+-- A meter that is not read is refused by number 3: its ratio is in its range wherever this is asked.
 abbrev pub meter_read : Direction → Meter → Outcome Moved
-meter_read dir m = refuse_unless 3 (is_accepted m) (given (meter_moved dir m))
+meter_read dir m = refuse_unless 3 (is_read m) (given (meter_moved dir m))
 
 -- The same of a list of meters.
 abbrev pub meters_moved : Direction → List Meter → Moved
@@ -50,4 +50,4 @@ meters_moved dir ms =
     }
 
 abbrev pub meters_read : Direction → List Meter → Outcome Moved
-meters_read dir ms = refuse_unless 3 (list_all is_accepted ms) (given (meters_moved dir ms))
+meters_read dir ms = refuse_unless 3 (list_all is_read ms) (given (meters_moved dir ms))

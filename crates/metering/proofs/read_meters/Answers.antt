@@ -6,7 +6,7 @@ use Rattle.std.proofs.Common.{rules}
 use Rattle.rounding.specs.Divided.{sum}
 use Rattle.metering.specs.Reading.{limit}
 use Rattle.metering.specs.Energy.{rounded_adding, rounded_taking}
-use Rattle.metering.proofs.Energy.{next-within, next-accepted, next-adds, next-takes, next-back, meters-refused}
+use Rattle.metering.proofs.Energy.{next-within, next-read, next-adds, next-takes, next-back, meters-refused}
 use Rattle.metering.proofs.read_meters.Goals as goal
 use Rattle.metering.proofs.read_meters.Goals.{In_ok-moved}
 
@@ -39,8 +39,8 @@ loop-meter-preserved c =
     let i = c.loop-meter.meter-index in
     let x = c.in_ok-moved.moved in
     record {
-      accepted = next-accepted c.args.direction ms i _ x c.loop-meter-test.true c.in_ok-moved.ensures
-          c.loop-meter.invariant.accepted;
+      read = next-read c.args.direction ms i _ x c.loop-meter-test.true c.in_ok-moved.ensures
+          c.loop-meter.invariant.read;
       adds_so_far = omega (arith, next-adds c.args.direction ms i _ x c.loop-meter-test.true c.in_ok-moved.ensures);
       takes_so_far = omega (arith, next-takes c.args.direction ms i _ x c.loop-meter-test.true c.in_ok-moved.ensures);
       back_so_far = cc (next-back c.args.direction ms i _ x c.loop-meter-test.true c.in_ok-moved.ensures);
