@@ -10,10 +10,11 @@ use Prim.Native.Nat.{ℕ, ◌+◌, ◌-◌, ◌*◌, ◌≤◌, ◌<◌, zero-le
 use mathlib.Core.Path.{◌≡◌, refl, sym, ap, subst, ◌∙◌}
 use mathlib.Core.Bool.{true, ◌&&◌}
 use mathlib.Core.List.{List, [], ◌∷◌}
+use Rattle.std.proofs.lemmas.List.{get_or-map}
 use Rattle.std.proofs.lemmas.Option.{same_Some}
 use native.Mathlib.Nat.{mul-le-mul_right}
 use native.Mathlib.Omega.{arith}
-use lib.ListN.{get_or}
+use lib.ListN.{get_or, length}
 use borrow.Author.Tests.{leb-true}
 use Rattle.rounding.specs.Divided.{sum}
 use Rattle.rounding.specs.Lists.{All}
@@ -51,9 +52,10 @@ use Rattle.report.specs.Report.{report_from, report_of, input_of_records}
 use Rattle.records.specs.Judging.{last_site, supply_within_limits, loss_within_limits}
 use Rattle.report.specs.Intact.{plant_intact, all_intact, source_intact, sources_intact}
 use Rattle.records.specs.Records.{source_place}
-use Rattle.report.specs.Steps.{site_plants, totals_of, no_plants, site_sums, column_for, row_for, in_table}
-use Rattle.report.specs.Steps.{milligrams_in, TableOf, CaptiveWithin, figure_at, grams_at, table_figure, figures_by}
-use Rattle.report.specs.Steps.{no_sums, one_more, with_grams, SideBounded, Bounded, side_sum, sums_of, reported_of}
+use Rattle.report.specs.Steps.{site_plants, totals_of, no_plants, site_sums, column_for, row_for, in_row, in_table}
+use Rattle.report.specs.Steps.{milligrams_in, TableOf, TableFull, CaptiveWithin, figure_at, grams_at, table_figure}
+use Rattle.report.specs.Steps.{figures_by, no_sums, one_more, with_grams, SideBounded, Bounded, side_sum, sums_of}
+use Rattle.report.specs.Steps.{reported_of}
 use Rattle.records.specs.declared.Plant.{Plant}
 use Rattle.records.specs.declared.Source.{Source}
 use Rattle.report.specs.declared.SideSum.{SideSum}
@@ -114,14 +116,28 @@ pub figure-same : (grid : Option Grid) (captive_at other : ℕ → Outcome ℕ) 
     → figure_at grid captive_at t s ≡ figure_at grid other t s
 figure-same grid captive_at other t s h = rw (chosen-same (direction s.side) grid t.factor captive_at other s.supply h)
 
+-- What is read of a row with a place for each direction is its factor, or its refusal.
+pub row-read : (row : List (Result ℕ Refusal)) (dir : Direction) (column : ℕ) → length row ≡ 2
+    → column ≡ column_for dir
+    → in_row row dir ≡ outcome_of (get_or row column (Ok 0))
+row-read row dir column two c =
+    rw c (get_or-map outcome_of row (column_for dir) (Ok 0) (refused 0) (omega (arith, two, column-limit dir)))
+
 -- The grams by the one factor that is read from a table for a source are those by the whole table.
 pub table-grams : (grid : Option Grid) (factors : List (List (Result ℕ Refusal))) (t : Totals) (s : Source)
     (dir : Direction) (row column : ℕ)
+    → TableFull factors → source_intact (Some s) ≡ true
     → dir ≡ direction s.side → row ≡ row_for (site_named s.supply) → column ≡ column_for dir
     → grams_at grid (λ S. outcome_of (get_or (get_or factors row []) column (Ok 0))) t s
     ≡ grams_at grid (in_table factors (direction s.side)) t s
-table-grams grid factors t s dir row column d r c =
-    ap grams_of_figure (figure-same grid _ _ t s (λ S e. rw (r ∙ ap row_for e, c, d)))
+table-grams grid factors t s dir row column full intact d r c =
+    ap grams_of_figure (figure-same grid _ _ t s named)
+  where
+    named : (S : ℕ) → site_named s.supply ≡ Some S
+        → outcome_of (get_or (get_or factors row []) column (Ok 0)) ≡ in_table factors (direction s.side) S
+    named S e =
+        let two = full S (named-site s.supply (source_fits s intact).0 S e) in
+        rw (r ∙ ap row_for e, ← d) (sym (row-read (get_or factors S []) dir column two c))
 
 module _ (grid : Option Grid) (captive_at : ℕ → Outcome ℕ) (t : Totals) (s : Source) where
   abbrev factor_by : Direction → Outcome ℕ
@@ -176,7 +192,7 @@ same-sums : {a b c x y z : SideSum} → a ≡ x → b ≡ y → c ≡ z
 same-sums e f g = rw (e, f, g)
 
 -- The sums of so many sources stay within their bounds.
-none-bounded : Bounded 0 no_sums
+pub none-bounded : Bounded 0 no_sums
 none-bounded =
     let z : SideBounded 0 no_sums.project = record { grams = omega arith; sources = omega arith } in
     record { project = z; leakage = z; baseline = z }
@@ -195,7 +211,7 @@ bounded-widen i j s h b =
 side-more : (i g : ℕ) (s : SideSum) → g ≤ 1500000000000 → SideBounded i s → SideBounded (i + 1) (one_more s g)
 side-more i g s h b = record { grams = omega arith; sources = omega arith }
 
-bounded-more : (i g : ℕ) (side : Side) (s : Sums) → g ≤ 1500000000000 → Bounded i s
+pub bounded-more : (i g : ℕ) (side : Side) (s : Sums) → g ≤ 1500000000000 → Bounded i s
     → Bounded (i + 1) (with_grams s side g)
 bounded-more i g Project s h b =
     let w = bounded-widen i (i + 1) s (omega arith) b in
@@ -230,16 +246,23 @@ more-first s = same-side (omega arith) (omega arith)
 more-last : (s : SideSum) → more s (record { grams = 0; sources = 0 }) ≡ s
 more-last s = same-side (omega arith) (omega arith)
 
--- At first nothing is summed up, and at the end nothing is left.
-as-reported : (fs : List Figured) → reported_of (sums_of fs) ≡ reply_from (figured fs)
+-- What the report answers once the walk has the figures: what is summed up of them, or the first refusal.
+abbrev answer_to : Figures → Reply
+answer_to (declined n k) = refused_at n k
+answer_to (figured fs) = reported_of (sums_of fs)
+
+as-reported : (x : Figures) → answer_to x ≡ reply_from x
 unfolding side_sum side_report report_from reported_of
-as-reported fs = refl
+as-reported (declined n k) = refl
+as-reported (figured fs) = refl
 
-resumed-first : (x : Figures) → resumed no_sums x ≡ reply_from x
-resumed-first (declined n k) = refl
-resumed-first (figured fs) = ap reported_of (same-sums (more-first _) (more-first _) (more-first _)) ∙ as-reported fs
+-- At first nothing is summed up, and at the end nothing is left.
+pub resumed-first : (x : Figures) → resumed no_sums x ≡ reply_from x
+resumed-first (declined n k) = as-reported (declined n k)
+resumed-first (figured fs) =
+    ap reported_of (same-sums (more-first _) (more-first _) (more-first _)) ∙ as-reported (figured fs)
 
-resumed-last : (acc : Sums) → resumed acc (figured []) ≡ reported_of acc
+pub resumed-last : (acc : Sums) → resumed acc (figured []) ≡ reported_of acc
 unfolding side_sum of_side selected sum
 resumed-last acc = ap reported_of (same-sums (more-last _) (more-last _) (more-last _))
 
@@ -298,10 +321,10 @@ pub record WalkedBefore (figure_of : Source → Outcome figure.Figure) (place : 
   pub within : Bounded i acc
 
 module _ (figure_of : Source → Outcome figure.Figure) (place : ℕ → Option Source) where
-  abbrev left : ℕ → Figures
+  abbrev pub left : ℕ → Figures
   left i = figures_by figure_of (standing place i (32 - i))
 
-  left-none : left 32 ≡ figured []
+  pub left-none : left 32 ≡ figured []
   unfolding standing figures_by
   left-none = refl
 

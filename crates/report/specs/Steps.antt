@@ -164,9 +164,10 @@ abbrev pub row_for : Option ℕ → ℕ
 row_for None = 0
 row_for (Some S) = S
 
--- The factor of a row in a direction, or its refusal; so with a table, at a site.
+-- The factor of a row in a direction, or its refusal; past the row refusal 0, which is no rule's number. So with a table,
+-- at a site.
 abbrev pub in_row : List (Result ℕ Refusal) → Direction → Outcome ℕ
-in_row row dir = outcome_of (get_or row (column_for dir) (Ok 0))
+in_row row dir = get_or (map outcome_of row) (column_for dir) (refused 0)
 
 abbrev pub in_table : List (List (Result ℕ Refusal)) → Direction → ℕ → Outcome ℕ
 in_table factors dir S = in_row (get_or factors S []) dir
@@ -188,6 +189,10 @@ CaptiveWithin o = (F : ℕ) → o ≡ given F → F ≤ factor_limit
 
 abbrev pub TableWithin : List (List (Result ℕ Refusal)) → Type 0
 TableWithin factors = (dir : Direction) (S : ℕ) → CaptiveWithin (in_table factors dir S)
+
+-- Every row has a place for each direction.
+abbrev pub TableFull : List (List (Result ℕ Refusal)) → Type 0
+TableFull factors = (S : ℕ) → S ≤ last_site → length (get_or factors S []) ≡ 2
 
 -- ---- the figure of a source
 

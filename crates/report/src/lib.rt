@@ -36,6 +36,7 @@ ghost use Rattle.report.specs.Steps.{
   RowOf,
   TableOf,
   TableWithin,
+  TableFull,
   CaptiveWithin,
   grams_at,
   table_reply,
@@ -318,6 +319,7 @@ fn site_factors(
 ) -> [[Result<u32, Refusal>; 2]; Plant::SITE_PLACES]
     ensures factors { TableOf sites.now result }
     ensures bound { TableWithin result }
+    ensures full { TableFull result }
 {
     [
         site_row(&sites[0]),
@@ -448,6 +450,7 @@ fn walk(
 ) -> Result<Sums, NoReport>
     requires grid { grid_intact grid ≡ true }
     requires factors { TableWithin factors.now }
+    requires full { TableFull factors.now }
     requires sources { sources_intact sources.now ≡ true }
     ensures walked { walked_meaning result ≡ table_reply grid factors.now totals.now sources.now }
     ensures bound { IfOk result (Bounded (last_source + 1)) }

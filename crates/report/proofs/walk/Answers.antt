@@ -9,8 +9,8 @@ use Rattle.records.specs.Records.{source_place}
 use Rattle.report.specs.Intact.{source_intact}
 use Rattle.report.specs.Steps.{table_figure}
 use Rattle.report.proofs.Summing.{intact-item, source_fits}
-use Rattle.report.proofs.Walks.{row-limit, table-grams, bounded-widen, Mapped, mapped-bound, walk-start, walk-skip}
-use Rattle.report.proofs.Walks.{walk-given, walk-refused, walk-end}
+use Rattle.report.proofs.Walks.{row-limit, row-read, table-grams, bounded-widen, Mapped, mapped-bound, walk-start}
+use Rattle.report.proofs.Walks.{walk-skip, walk-given, walk-refused, walk-end}
 use Rattle.std.proofs.Common.{rules}
 use Rattle.std.proofs.lemmas.Result.{err_from_is_err_and}
 use Rattle.report.proofs.walk.Goals as goal
@@ -42,9 +42,12 @@ bounds-factors-row_for c = omega (arith, row (goal.at.bounds-factors-row_for c).
 
 pub source_grams-requires : goal.source_grams-requires
 source_grams-requires c =
+    let fits : c.row_for.result ≤ 3 = row (goal.at.source_grams-requires c).After-row_for in
     record {
       grid = c.requires.grid;
-      captive = rw c.column_for.ensures (c.requires.factors c.direction.result c.row_for.result);
+      captive =
+          rw (← row-read _ c.direction.result _ (c.requires.full _ fits) c.column_for.ensures)
+          (c.requires.factors c.direction.result c.row_for.result);
       source = unbroken (goal.at.source_grams-requires c).In-Some;
     }
 
@@ -64,8 +67,9 @@ returns-in_err-grams-clause-walked c =
     let s = c.in-Some.source in
     let mapped : Mapped c.source_grams.result c.map_err.result l.number = search rules in
     let r = err_from_is_err_and c.from_residual.result c.from_residual.ensures.1 in
+    let intact = unbroken (goal.at.returns-in_err-grams-clause-walked c).In-Some in
     let same =
-    table-grams a.grid a.factors.now a.totals.now s _ _ _ c.direction.ensures c.row_for.ensures
+    table-grams a.grid a.factors.now a.totals.now s _ _ _ c.requires.full intact c.direction.ensures c.row_for.ensures
     c.column_for.ensures in
     rw (r.1, r.2)
     (walk-refused (table_figure a.grid a.factors.now a.totals.now) (source_place a.sources.now) l.number l.sums
@@ -82,9 +86,11 @@ loop-number-preserved c =
       | in-Some+in_ok-grams w ↦
           let s = w.in-Some.source in
           let mapped : Mapped w.source_grams.result w.map_err.result l.number = search rules in
+          let intact =
+          intact-item source_intact place 32 l.number s c.requires.sources c.loop-number-test.true w.in-Some.is in
           let same =
-          table-grams a.grid a.factors.now a.totals.now s _ _ _ w.direction.ensures w.row_for.ensures
-          w.column_for.ensures in
+          table-grams a.grid a.factors.now a.totals.now s _ _ _ c.requires.full intact w.direction.ensures
+          w.row_for.ensures w.column_for.ensures in
           rw (w.sums-is, w.add.ensures)
           (walk-given f place l.number l.sums l.invariant c.loop-number-test.true s w.in-Some.is
           w.source_grams.result w.map_err.result mapped (w.source_grams.ensures.grams ∙ same) _ w.in_ok-grams.was
