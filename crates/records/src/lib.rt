@@ -9,6 +9,8 @@ ghost use Rattle.fuel.specs.Fuel.{states_energy, all_lines};
 ghost use Rattle.records.specs.Heat.{fuel_energy, heat_judged};
 ghost use Rattle.records.specs.Judging.{
   lines_of,
+  last_plant,
+  last_source,
   lines_limit,
   generation_limit,
   answer_of,
@@ -124,6 +126,23 @@ impl Plant {
         self.heat_judged()?;
         Ok(*self)
     }
+
+    // Enters a plant in the place of its number, over what stands there; a refusal leaves the place as it was
+    // (document 01, "Plant entry").
+    pub fn enter(place: &mut Option<Plant>, number: u8, plant: &Plant) -> Result<(), Refusal>
+        ensures place { place.new ≡ where_given (plant_judged number plant.now) Some place.old }
+        ensures answer { outcome_of result ≡ answer_of (plant_judged number plant.now) }
+    {
+        enter(place, plant.judged(number))
+    }
+
+    // Empties the place of a plant's number; a refusal leaves the place as it was (document 01, "Drop").
+    pub fn remove(place: &mut Option<Plant>, number: u8) -> Result<(), Refusal>
+        ensures place { place.new ≡ where_given (drop_judged last_plant (is_there place.old) number) (λ a. None) place.old }
+        ensures answer { outcome_of result ≡ drop_judged last_plant (is_there place.old) number }
+    {
+        remove(place, Plant::LAST, number)
+    }
 }
 
 // The energy of all the fuel lines together, none where one of them states none.
@@ -218,6 +237,23 @@ impl Source {
     pub const NUMBERS: u8 = Source::LAST + 1;
 
     pub const PLACES: usize = Source::NUMBERS as usize;
+
+    // Enters a source in the place of its number, over what stands there; a refusal leaves the place as it was
+    // (document 01, "Source entry").
+    pub fn enter(place: &mut Option<Source>, number: u8, entry: &SourceEntry) -> Result<(), Refusal>
+        ensures place { place.new ≡ where_given (source_judged number entry.now) Some place.old }
+        ensures answer { outcome_of result ≡ answer_of (source_judged number entry.now) }
+    {
+        enter(place, entry.judged(number))
+    }
+
+    // Empties the place of a source's number; a refusal leaves the place as it was (document 01, "Drop").
+    pub fn remove(place: &mut Option<Source>, number: u8) -> Result<(), Refusal>
+        ensures place { place.new ≡ where_given (drop_judged last_source (is_there place.old) number) (λ a. None) place.old }
+        ensures answer { outcome_of result ≡ drop_judged last_source (is_there place.old) number }
+    {
+        remove(place, Source::LAST, number)
+    }
 }
 
 // Puts what an entry gives in its place, over what stands there; a refusal leaves the place as it was.
