@@ -1,4 +1,5 @@
 pub mod Answers
+pub mod Owner
 pub mod Input
 pub mod Typed
 pub mod Claim

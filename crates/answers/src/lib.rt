@@ -13,8 +13,10 @@ use ledger::Ledger;
 // The most bytes of an input.
 pub const INPUT_LIMIT: usize = 65_536;
 
-// The bytes that a buffer needs for each byte of an input.
+// The bytes that a buffer needs for each byte of an input, and for the refusal of a longer one.
 pub const BYTES_FOR_EACH: usize = 18;
+
+pub const BYTES_OF_REFUSAL: usize = 11;
 
 // Answers the lines of an input one after the other, each by the ledger that the lines before it left.
 fn answer_lines(input: &[u8], buffer: &mut [u8]) -> usize
@@ -40,7 +42,10 @@ pub fn answer_input(input: &[u8], buffer: &mut [u8]) -> Option<usize>
     ensures buffer_after { buffer.new ≡ buffer_after buffer.old input.now }
 {
     if input.len() > INPUT_LIMIT {
-        return text::put_word(buffer, 0, b"refused 14\n");
+        if buffer.len() < BYTES_OF_REFUSAL {
+            return None;
+        }
+        return Some(text::put_word(buffer, 0, b"refused 14\n").unwrap());
     }
     if buffer.len() < BYTES_FOR_EACH * input.len() {
         return None;

@@ -57,35 +57,17 @@ met c =
           (ap answer_meaning w.done-is ∙ w.drop_source-done.ensures.answer)
     ]
 
-pub returns-in_err-done : goal.returns-in_err-done
-returns-in_err-done c =
-    let p = met (goal.at.returns-in_err-done c).Joined-call in
-    let t : reply_meaning c.from_residual-in_err-done.result ≡ refused_with (number_of c.in_err-done.field-0.0) =
-    search rules in
-    record { ledger = p.0; answer = t ∙ rw c.in_err-done.was at p.1 }
-
 pub returns : goal.returns
 returns c =
     let p = met (goal.at.returns c).Joined-call in
-    record { ledger = p.0; answer = rw c.in_ok-done.was at p.1 }
+    record { ledger = p.0; answer = c.entry_reply.ensures ∙ p.1 }
 
 -- A report changes nothing.
-reported : (c : In_ok-call) → c.in_ok-call.call ≡ Report → {a : Reply} → a ≡ reply c.args.ledger.now report
-    → (c.args.ledger.now ≡ line_step c.args.ledger.now (line_call c.args.line.now))
-    × (a ≡ line_reply c.args.ledger.now (line_call c.args.line.now))
-unfolding step
-reported c is a =
-    answered c.args.ledger.now c.args.line.now _ c.read_line.ensures _ Report c.in_ok-call.ensures.ok_part is refl a
-
-pub returns-in_err-report-in-Report : goal.returns-in_err-report-in-Report
-returns-in_err-report-in-Report c =
-    let t : reply_meaning c.from_residual-in_err-report-in-Report.result
-    ≡ no_report_meaning c.in_err-report-in-Report.field-0.0 = search rules in
-    let p = reported (goal.at.returns-in_err-report-in-Report c).In_ok-call c.in-Report.is
-    (t ∙ c.in_err-report-in-Report.ensures) in
-    record { ledger = p.0; answer = p.1 }
-
 pub returns-in-Report : goal.returns-in-Report
+unfolding step reply
 returns-in-Report c =
-    let p = reported (goal.at.returns-in-Report c).In_ok-call c.in-Report.is c.in_ok-report-in-Report.ensures in
+    let p =
+    answered c.args.ledger.now c.args.line.now _ c.read_line.ensures _ Report c.in_ok-call.ensures.ok_part
+    c.in-Report.is refl c.report_on.ensures
+    in
     record { ledger = p.0; answer = p.1 }
