@@ -1,5 +1,5 @@
 -- `answers::answer_input` meets its contract: the refusal of a longer input is put where it fits. Assumes nothing.
-use Rattle.std.proofs.Common.{◌≡◌, ◌∙◌, refl, sym, length, leb}
+use Rattle.std.proofs.Common.{◌≡◌, ◌∙◌, refl, sym, true, length, leb, arith}
 use Rattle.std.proofs.lemmas.Bool.{le-leb, lt-leb}
 use Rattle.text.specs.Buffer.{after_put}
 use Rattle.answers.specs.Input.{output}
@@ -8,7 +8,8 @@ use Rattle.answers.proofs.answer_input.Goals as goal
 pub unwrap-requires : goal.unwrap-requires
 unfolding after_put
 unwrap-requires c =
-    rw (c.put_word.ensures.value, le-leb 11 (length c.args.buffer.now) c.if-buffer-lt-BYTES_OF_REFUSAL.false) refl
+    let room : leb 11 (length c.args.buffer.now) ≡ true = le-leb 11 _ (omega (arith, c.if-buffer-lt-BYTES_OF_REFUSAL.false)) in
+    rw (c.put_word.ensures.value, room) refl
 
 pub returns-then-input-gt-INPUT_LIMIT-clause-value : goal.returns-then-input-gt-INPUT_LIMIT-clause-value
 unfolding output after_put
@@ -19,8 +20,5 @@ returns-then-input-gt-INPUT_LIMIT-clause-value c =
 pub returns-then-input-gt-INPUT_LIMIT-clause-buffer_after : goal.returns-then-input-gt-INPUT_LIMIT-clause-buffer_after
 unfolding output
 returns-then-input-gt-INPUT_LIMIT-clause-buffer_after c =
-    rw (
-      lt-leb _ 65536 c.if-input-gt-INPUT_LIMIT.true,
-      le-leb 11 (length c.args.buffer.now) c.if-buffer-lt-BYTES_OF_REFUSAL.false,
-    )
-    c.put_word.ensures.buffer_after
+    let room : leb 11 (length c.args.buffer.now) ≡ true = le-leb 11 _ (omega (arith, c.if-buffer-lt-BYTES_OF_REFUSAL.false)) in
+    rw (lt-leb _ 65536 c.if-input-gt-INPUT_LIMIT.true, room) c.put_word.ensures.buffer_after

@@ -1,10 +1,8 @@
 -- `answers::line::answer_line` meets its contract: of each call that a line makes, the ledger's operation says what it
 -- leaves and answers. Assumes nothing.
 use Rattle.std.proofs.Common.{◌≡◌, ◌∙◌, refl, sym, ap, rules}
-use Rattle.rounding.specs.Outcome.{number_of}
-use Rattle.report.specs.Report.{Reply, refused_with}
-use Rattle.report.specs.Answers.{no_report_meaning, answer_meaning}
-use Rattle.ledger.specs.Standing.{report}
+use Rattle.report.specs.Report.{refused_with}
+use Rattle.report.specs.Answers.{answer_meaning}
 use Rattle.ledger.specs.Operations.{step, reply}
 use Rattle.forms.specs.Calls.{line_call}
 use Rattle.forms.specs.declared.Call.TheVariants.{EnterGrid, EnterPlant, EnterSource, DropPlant, DropSource, Report}
@@ -12,7 +10,7 @@ use Rattle.answers.specs.Answers.{reply_meaning}
 use Rattle.answers.specs.Input.{line_step, line_reply}
 use Rattle.answers.proofs.Forms.{read-steps, read-replies, answered}
 use Rattle.answers.proofs.line.answer_line.Goals as goal
-use Rattle.answers.proofs.line.answer_line.Goals.{In_ok-call, Joined-call}
+use Rattle.answers.proofs.line.answer_line.Goals.{Joined-call}
 use Rattle.answers.proofs.line.answer_line.Goals.{in-EnterGrid, in-EnterPlant, in-EnterSource, in-DropPlant, in-DropSource}
 
 pub returns-in_err-call : goal.returns-in_err-call
