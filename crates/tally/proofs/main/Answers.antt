@@ -8,7 +8,7 @@ use Rattle.tally.proofs.main.Goals.{After-unwrap-length}
 within : (c : After-unwrap-length) → c.unwrap-length.result ≤ length c.answer_input.new.buffer
 within c =
     rw c.answer_input.auto.buffer
-    (written-fits _ (length c.output_buffer.result) c.unwrap-length.result
+    (written-fits _ (length c.output_buffer-buffer.result) c.unwrap-length.result
     (sym c.answer_input.ensures.value ∙ c.unwrap-length.ensures))
 
 pub slice_bounds-buffer-end : goal.slice_bounds-buffer-end
