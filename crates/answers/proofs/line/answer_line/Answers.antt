@@ -3,6 +3,8 @@
 use Rattle.std.proofs.Common.{◌≡◌, ◌∙◌, refl, sym, ap, rules}
 use Rattle.report.specs.Report.{refused_with}
 use Rattle.report.specs.Answers.{answer_meaning}
+use native.Mathlib.Omega.{arith}
+use Rattle.ledger.specs.Standing.{enter_source}
 use Rattle.ledger.specs.Operations.{step, reply}
 use Rattle.forms.specs.Calls.{line_call}
 use Rattle.forms.specs.declared.Call.TheVariants.{EnterGrid, EnterPlant, EnterSource, DropPlant, DropSource, Report}
@@ -43,8 +45,10 @@ met c =
       | in-EnterSource w ↦
           answered l line _ c.read_line.ensures _
           (EnterSource w.in-EnterSource.number w.in-EnterSource.entry) some w.in-EnterSource.is
-          (w.ledger-is ∙ w.enter_source-done.ensures.ledger)
-          (ap answer_meaning w.done-is ∙ w.enter_source-done.ensures.answer)
+          (w.ledger-is ∙ w.enter_source-done.ensures.ledger
+          ∙ ap (λ n. step l (enter_source n w.in-EnterSource.entry)) (omega arith))
+          (ap answer_meaning w.done-is ∙ w.enter_source-done.ensures.answer
+          ∙ ap (λ n. reply l (enter_source n w.in-EnterSource.entry)) (omega arith))
       | in-DropPlant w ↦
           answered l line _ c.read_line.ensures _ (DropPlant w.in-DropPlant.number) some w.in-DropPlant.is
           (w.ledger-is ∙ w.drop_plant-done.ensures.ledger)
